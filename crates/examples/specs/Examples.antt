@@ -1,0 +1,105 @@
+-- 01, "Examples", those marked P: a single table, under the one statement at its end.
+use Prim.Native.Nat.{ℕ, _+_}
+use mathlib.Core.Bool.{Bool, true, false, _&&_}
+use mathlib.Core.List.{List, [], _∷_, _++_}
+use lib.ListN.{replicate}
+use lib.Dec.{T, eqb}
+use Rattle.rules.specs.Flash.{half-offset, offset, aim, after, run}
+use Rattle.rules.specs.Word.{Word, word, zeros, check, sound, blank, Condition, Sound, Blank, Spoiled, condition, low16, low24, third, checked, wear-word, number-word, opening-word, done-word, record-word, slot-condition, word-steps, words}
+use Rattle.rules.specs.Page.{wear-part, opening-part, done-part, slots, is-wear, wear-in, is-opening, order-in, is-done, all-blank, state-after-wear, state-by, state, page}
+use Rattle.rules.specs.Store.{states, order₂, base, used, is-cleared, is-open, order, add-order, used-orders, greatest, active-order, is-active, index-of, active-index, add-page, used-pages, insert, oldest-first, add-record, records, all-records, journal, or-else, last-of, value, put, put-all, settings, held, past, free-slot, slots-at, active-slots, count, better, offered, least-worn, index}
+use Rattle.rules.specs.Steps.{renew, renew-all, format-steps, renewed-wear, add-steps, renewals, unclean, recovery-steps, append-steps, taken, open-steps, but, copies, copy-steps, move-steps, has-free-slot, is-value, write-steps}
+use Rattle.rules.specs.Call.{cut, page-count, pages, wrong-size, no-store, among, repeats, all-used, damaged, is-unclean, wrong-address, is-held, no-room, order-end, store-number, then, write-number, blank-read-number, read-number, Stepped, Reading, accepted, format, stepped, recover, write, or-value, read, not-held-value, blank-value, blank-read, digits, lookup}
+
+-- a row: what the rules give, and what 01 prints
+pub data Row : Type 0 where
+  row : (given printed : List ℕ) → Row
+
+unfoldable pub same : List ℕ → List ℕ → Bool
+same [] [] = true
+same [] (y ∷ ys) = false
+same (x ∷ xs) [] = false
+same (x ∷ xs) (y ∷ ys) = eqb x y && same xs ys
+
+unfoldable pub holds : List Row → Bool
+holds [] = true
+holds (row given printed ∷ rows) = same given printed && holds rows
+
+-- how a row tells what it gives: a word by its bytes, its condition by a number, an answer by its fields in 01's order
+unfoldable pub bytes : Word → List ℕ
+bytes (word a b c d) = a ∷ b ∷ c ∷ d ∷ []
+
+abbrev pub SOUND : List ℕ
+SOUND = 1 ∷ []
+
+abbrev pub SPOILED : List ℕ
+SPOILED = 3 ∷ []
+
+unfoldable pub told : Condition → List ℕ
+told Sound = 1 ∷ []
+told Blank = 2 ∷ []
+told Spoiled = 3 ∷ []
+
+unfoldable pub said : Reading → List ℕ
+said r = r .number ∷ r .value ∷ []
+
+unfoldable pub yes-no : Bool → ℕ
+yes-no true = 1
+yes-no false = 0
+
+unfoldable pub did : Stepped → List ℕ
+did r = r .number ∷ r .steps ∷ yes-no (r .finished) ∷ []
+
+-- the images that the examples speak of
+abbrev pub empty-flash : ℕ → List ℕ
+empty-flash n = replicate n 0xFF
+
+unfoldable pub two-pages : List ℕ
+two-pages = format (empty-flash 2048) .image
+
+-- the numbers that all calls give, as a call of each on an image
+unfoldable pub numbers : List ℕ → List ℕ
+numbers i =
+    format i .number ∷ recover 65535 i .number ∷ write 0 0 65535 i .number ∷ read 0 i .number ∷ blank-read 0 i .number
+    ∷ lookup i .number ∷ []
+
+unfoldable pub table : List Row
+table =
+    -- 1. Record (5, 65)
+    row (bytes (record-word 5 65)) (0x05 ∷ 0x00 ∷ 0x41 ∷ 0x14 ∷ [])
+    ∷ row (told (condition (word 0x05 0x00 0x41 0x14))) SOUND
+    -- 2. Record (0, 0), record (65534, 255)
+    ∷ row (bytes (record-word 0 0)) (0x00 ∷ 0x00 ∷ 0x00 ∷ 0x18 ∷ [])
+    ∷ row (bytes (record-word 65534 255)) (0xFE ∷ 0xFF ∷ 0xFF ∷ 0x01 ∷ [])
+    -- 3. Wear 1, wear 258
+    ∷ row (bytes (wear-word 1 1)) (0x01 ∷ 0x00 ∷ 0x01 ∷ 0x16 ∷ [])
+    ∷ row (bytes (wear-word 1 258)) (0x02 ∷ 0x01 ∷ 0x01 ∷ 0x15 ∷ [])
+    -- 4. Opening, order 0, kind 1; order 1, kind 2; done
+    ∷ row (bytes (opening-word 1 0)) (0x01 ∷ 0x00 ∷ 0x00 ∷ 0x17 ∷ [])
+    ∷ row (bytes (opening-word 2 1)) (0x06 ∷ 0x00 ∷ 0x00 ∷ 0x16 ∷ [])
+    ∷ row (bytes (done-word 1)) (0x07 ∷ 0x00 ∷ 0x00 ∷ 0x15 ∷ [])
+    -- 5. Spoiled words; FF FF FF 00 in a slot, and as a done word
+    ∷ row (told (condition (word 0x05 0x00 0xFF 0xFF))) SPOILED
+    ∷ row (told (condition (word 0x05 0x00 0x43 0x14))) SPOILED
+    ∷ row (told (slot-condition (word 0xFF 0xFF 0xFF 0x00))) SPOILED
+    ∷ row (bytes (done-word 4194303)) (0xFF ∷ 0xFF ∷ 0xFF ∷ 0x00 ∷ [])
+    ∷ row (told (condition (word 0xFF 0xFF 0xFF 0x00))) SOUND
+    -- 6. Lengths that are SIZE, at every call
+    ∷ row (numbers (empty-flash 0)) (1 ∷ 1 ∷ 1 ∷ 1 ∷ 1 ∷ 1 ∷ [])
+    ∷ row (numbers (empty-flash 1024)) (1 ∷ 1 ∷ 1 ∷ 1 ∷ 1 ∷ 1 ∷ [])
+    ∷ row (numbers (empty-flash 2049)) (1 ∷ 1 ∷ 1 ∷ 1 ∷ 1 ∷ 1 ∷ [])
+    ∷ row (numbers (empty-flash 33792)) (1 ∷ 1 ∷ 1 ∷ 1 ∷ 1 ∷ 1 ∷ [])
+    -- 7. 2,048 bytes of 255: NO STORE, but to format. Formatted two pages, read 0: NOT HELD; blank read 255.
+    ∷ row (numbers (empty-flash 2048)) (0 ∷ 2 ∷ 2 ∷ 2 ∷ 2 ∷ 2 ∷ [])
+    ∷ row (said (read 0 two-pages)) (8 ∷ 0 ∷ [])
+    ∷ row (said (blank-read 0 two-pages)) (0 ∷ 255 ∷ [])
+    -- 8. Write (5, 65), allowance 1: 1 step, unfinished, 5 not held. Allowance 2 instead: finished, 65.
+    ∷ row (did (write 5 65 1 two-pages)) (0 ∷ 1 ∷ 0 ∷ [])
+    ∷ row (said (read 5 (write 5 65 1 two-pages .image))) (8 ∷ 0 ∷ [])
+    ∷ row (did (write 5 65 2 two-pages)) (0 ∷ 2 ∷ 1 ∷ [])
+    ∷ row (said (read 5 (write 5 65 2 two-pages .image))) (0 ∷ 65 ∷ [])
+    ∷ []
+
+pub examples : T (holds table)
+unfolding same holds bytes told said yes-no did two-pages numbers table offset aim after run zeros check sound blank condition low16 low24 third checked wear-word number-word opening-word done-word record-word slot-condition word-steps words wear-part opening-part done-part slots is-wear wear-in is-opening order-in is-done all-blank state-after-wear state-by state page states order₂ base used is-cleared is-open order add-order used-orders greatest active-order is-active index-of active-index add-page used-pages insert oldest-first add-record records all-records journal or-else last-of value put put-all settings held past free-slot slots-at active-slots count better offered least-worn index renew renew-all format-steps renewed-wear add-steps renewals unclean recovery-steps append-steps taken open-steps but copies copy-steps move-steps has-free-slot is-value write-steps cut page-count pages wrong-size no-store among repeats all-used damaged is-unclean wrong-address is-held no-room order-end store-number then write-number blank-read-number read-number accepted format stepped recover write or-value read not-held-value blank-value blank-read digits lookup
+examples = tt

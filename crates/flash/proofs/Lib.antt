@@ -1,0 +1,4 @@
+-- Laws for the callers that lend a part of an image.
+pub mod Lent
+pub mod Runs
+pub mod Steps

@@ -1,0 +1,278 @@
+-- A good store: the invariant, as one record with named fields, and what recovery and write make of it. Assumes nothing.
+use Prim.Native.Nat.{ℕ, zero, suc, _+_, _-_, _≤_, _<_}
+use mathlib.Core.Path.{_≡_, refl, sym, ap, ap₂, _∙_, subst, subst₂}
+use mathlib.Core.Logic.{_⊎_, inl, inr, ⊎-elim}
+use mathlib.Core.Bool.{Bool, true, false, cond, not, _||_}
+use mathlib.Core.List.{List, [], _∷_, _++_, map}
+use mathlib.Core.Option.{Option, none, some}
+use native.Mathlib.Omega.{arith}
+use lib.ListN.{length, length-append, length-map, replicate, length-replicate}
+use lib.Dec.{eqb, leb, ltb}
+use borrow.Author.Tests.{eqb-true, eqb-false, eq-eqb, ltb-true, leb-true, leb-false, not-true}
+use Rattle.rules.specs.Flash.{Step}
+use Rattle.rules.specs.Word.{Word, record-word, opening-word, word-steps}
+use Rattle.rules.specs.Page.{is-wear, State, cleared, Page, page, state, slots, slot-place, opening-place, done-place, blank-word, all-blank}
+use Rattle.rules.specs.Store.{states, base, order, used, is-cleared, used-orders, greatest, active-order, active-index, active-slots, slots-at, is-active, index-of, used-pages, oldest-first, journal, Setting, setting, last-of, put-all, free-slot, count, least-worn, index}
+use Rattle.rules.specs.Steps.{unclean, recovery-steps, append-steps, open-steps, move-steps, taken, copies, but, has-free-slot}
+use Rattle.rules.specs.Call.{among, repeats}
+use Rattle.rules.proofs.Truth.{by-cases, not-both, or-false-left, or-false-right}
+use Rattle.rules.proofs.Slots.{FreeAt, free-at, Lawful, put-all-lawful, but-lawful, lawful-append, all-records-lawful}
+use Rattle.rules.proofs.Settings.{append-few, copies-few, copies-length, copies-last}
+use Rattle.rules.proofs.Pages.{cleared-is, replicate-all-blank}
+use Rattle.rules.proofs.Stores.{orders, orders-used, greatest-among, greatest-upto, UpTo, Under, upto-under, ActiveAt, active-at, taken-at, slots-amid, repeats-insert, count-all, count-used}
+use Rattle.promise.proofs.Phases.{Pages, Through, Turns, end, step, turn, wait, store-run, word-run, turns-after, turns-through}
+use Rattle.promise.proofs.Keeps.{Whole, AllWhole, told, Keeps, whole-amid, Parted, parted, Headed, headed}
+use Rattle.promise.proofs.Renewals.{Idle, renewals-through}
+use Rattle.promise.proofs.Append.{Newest, append-turns}
+use Rattle.promise.proofs.Open.{begun, taken-page, with-order, orders-apart, opened-newest, opened-keeps, opening-turns}
+use Rattle.promise.proofs.Move.{move-turns}
+
+-- The invariant. L is the greatest number that may be held.
+pub record Good (mark k n L : ℕ) (J : List Setting) (F : Pages) : Type 0 where
+  pub base-order : ℕ
+  pub used-by : List ℕ
+  pub keeps : Keeps mark k n base-order used-by J F
+  pub apart : repeats used-by ≡ false
+  pub spare : length used-by < n
+  pub some : 0 < length used-by
+  pub few : length (put-all [] J) ≤ L
+
+-- ---- what holds through steps may be said more weakly
+
+module _ (k : ℕ) {P Q : Pages → Type 0} (to : (F : Pages) → P F → Q F) where
+  pub through-map : {ss : List Step} {F : Pages} → Through k P ss F → Through k Q ss F
+  through-map (end p) = end (to _ p)
+  through-map (step c p f t) = step c (to _ p) (λ G x. to G (f G x)) (through-map t)
+
+module _ (k : ℕ) {P Q R S : Pages → Type 0} (old : (F : Pages) → P F → R F) (new : (F : Pages) → Q F → S F) where
+  pub turns-map : {ss : List Step} {F : Pages} → Turns k P Q ss F → Turns k R S ss F
+  turns-map (turn c p f t) = turn c (old _ p) (λ G x. ⊎-elim (λ q. inl (old G q)) (λ q. inr (new G q)) (f G x)) (through-map k new t)
+  turns-map (wait c p f t) = wait c (old _ p) (λ G x. old G (f G x)) (turns-map t)
+
+-- ---- recovery
+
+pub idle-unclean : (mark b : ℕ) (i : ℕ) (F : Pages) → Idle mark b (λ i s. unclean b s) i F
+unfolding Idle unclean
+idle-unclean mark b i [] = tt
+idle-unclean mark b i (pg ∷ F) = (λ t. or-false-left (used b (state mark pg)) (is-cleared (state mark pg)) (not-true _ t), idle-unclean mark b (suc i) F)
+
+module _ (mark k′ n L : ℕ) where
+  pub recovery-through : (J : List Setting) (F : Pages) → Good mark (suc k′) n L J F → Through (suc k′) (Good mark (suc k′) n L J) (recovery-steps mark (told mark F)) F
+  unfolding recovery-steps
+  recovery-through J F g =
+      let b = g .base-order in
+      let kept = renewals-through mark k′ n b (g .used-by) J (λ i s. unclean b s) [] F (idle-unclean mark b 0 F) (g .keeps) in
+      rw (g .keeps .is-base)
+      (through-map (suc k′) (λ G h. record { base-order = b; used-by = g .used-by; keeps = h; apart = g .apart; spare = g .spare; some = g .some; few = g .few }) kept)
+
+-- ---- writing
+
+-- the greatest of the orders in use
+greatest-is : (os : List ℕ) → 0 < length os → among (greatest os) os ≡ true
+greatest-is [] h = absurd (omega arith)
+greatest-is (o ∷ os) h = greatest-among o os
+
+-- a good store in which each address has the value that t gives
+abbrev pub Has : (mark k n L : ℕ) → (ℕ → Option ℕ) → Pages → Type 0
+Has mark k n L t F = (J : List Setting) × Good mark k n L J F × ((x : ℕ) → last-of x J ≡ t x)
+
+-- the values after a write
+abbrev pub then-put : List Setting → (a v : ℕ) → ℕ → Option ℕ
+then-put J a v x = last-of x (J ++ setting a v ∷ [])
+
+module _ (mark m n L : ℕ) (J : List Setting) (F : Pages) (g : Good mark (suc (suc (suc m))) n L J F) (a v : ℕ) (ne : a ≡ 65535 → ⊥) (room : last-of a J ≡ none → length (put-all [] J) < L) where
+  still : (G : Pages) → Keeps mark (suc (suc (suc m))) n (g .base-order) (g .used-by) J G → Good mark (suc (suc (suc m))) n L J G
+  still G h = record { base-order = g .base-order; used-by = g .used-by; keeps = h; apart = g .apart; spare = g .spare; some = g .some; few = g .few }
+
+  gained : (G : Pages) → Keeps mark (suc (suc (suc m))) n (g .base-order) (g .used-by) (J ++ setting a v ∷ []) G → Good mark (suc (suc (suc m))) n L (J ++ setting a v ∷ []) G
+  gained G h = record { base-order = g .base-order; used-by = g .used-by; keeps = h; apart = g .apart; spare = g .spare; some = g .some; few = append-few a v J L (g .few) room }
+
+  -- the record goes into a free slot of the newest page, wherever that is
+  pub append-good : (i j : ℕ) (f : Pages) (x y z : Word) (xs ys : List Word) (r : Pages) → F ≡ f ++ (x ∷ y ∷ z ∷ (xs ++ blank-word ∷ ys)) ∷ r → i ≡ length f → j ≡ length xs
+      → Newest mark (g .base-order) f (x ∷ y ∷ z ∷ (xs ++ blank-word ∷ ys)) r → all-blank ys ≡ true
+      → Turns (suc (suc (suc m))) (Good mark (suc (suc (suc m))) n L J) (Good mark (suc (suc (suc m))) n L (J ++ setting a v ∷ [])) (word-steps i (slot-place j) (record-word a v)) F
+  append-good i j f x y z xs ys r e ei ej new blanks =
+      let k = suc (suc (suc m)) in
+      rw (e, ei, ej)
+      (turns-map k still gained (append-turns mark k n (g .base-order) (g .used-by) J f x y z xs ys r new blanks (subst (Keeps mark k n (g .base-order) (g .used-by) J) e (g .keeps)) a v ne))
+
+module _ (mark m n L : ℕ) (J : List Setting) (F : Pages) (g : Good mark (suc (suc (suc m))) n L J F) where
+  abbrev k : ℕ
+  k = suc (suc (suc m))
+
+  abbrev b : ℕ
+  b = g .base-order
+
+  abbrev os : List ℕ
+  os = g .used-by
+
+  active-is : active-order (states (told mark F)) ≡ greatest os
+  unfolding active-order
+  active-is =
+      ap (λ (x : ℕ). greatest (used-orders x (states (told mark F)))) (g .keeps .is-base) ∙ ap greatest (orders-used b (told mark F) ∙ g .keeps .has-orders)
+
+  active : ActiveAt b (greatest os) (told mark F)
+  active =
+      active-at b (greatest os) (told mark F) (rw (g .keeps .has-orders) (greatest-upto os)) (rw (g .keeps .has-orders) (greatest-is os (g .some))) (rw (g .keeps .has-orders) (g .apart))
+
+  at-active : Parted mark F (active .front) (active .page) (active .rest)
+  at-active = parted mark F (active .front) (active .page) (active .rest) (active .form)
+
+  active-place : active-index (states (told mark F)) ≡ length (at-active .front)
+  unfolding active-index
+  active-place =
+      ap₂ (λ (x y : ℕ). index-of (is-active x y) (states (told mark F))) (g .keeps .is-base) active-is ∙ active .place
+      ∙ sym (ap length (at-active .front-told)) ∙ length-map (at-active .front) (page mark)
+
+  slots-active : active-slots (told mark F) ≡ slots (at-active .here)
+  unfolding active-slots page
+  slots-active =
+      ap (λ (x : ℕ). slots-at x (told mark F)) (active-place ∙ sym (length-map (at-active .front) (page mark)) ∙ ap length (at-active .front-told))
+      ∙ ap (slots-at (length (active .front))) (active .form)
+      ∙ slots-amid (active .front) (active .page) (active .rest)
+      ∙ ap (λ (p : Page). p .slots) (sym (at-active .here-told))
+
+  active-newest : Newest mark b (at-active .front) (at-active .here) (at-active .rest)
+  unfolding page
+  active-newest =
+      let e : state mark (at-active .here) ≡ active .page .state = ap (λ (p : Page). p .state) (at-active .here-told) in
+      let o : order (state mark (at-active .here)) ≡ greatest os = ap order e ∙ active .is-order in
+      record {
+        is-used = rw e (active .is-used);
+        before = rw (o, at-active .front-told) (active .before);
+        behind = rw (o, at-active .rest-told) (active .behind);
+      }
+
+  -- the free slot of the active page
+  active-free : has-free-slot (told mark F) ≡ true → (hd : Headed m (at-active .here)) × FreeAt (hd .ws) × (free-slot (active-slots (told mark F)) ≡ free-slot (hd .ws))
+  unfolding has-free-slot slots
+  active-free free =
+      let hd = headed m (at-active .here) (whole-amid k (at-active .front) (at-active .here) (at-active .rest) (subst (AllWhole k) (at-active .form) (g .keeps .whole)) .1 .0) in
+      let sl : active-slots (told mark F) ≡ hd .ws = slots-active ∙ ap slots (hd .form) in
+      (hd, free-at (hd .ws) (ltb-true (free-slot (hd .ws)) (length (hd .ws)) (rw sl at free)), ap free-slot sl)
+
+  pub append-case : (a v : ℕ) → (a ≡ 65535 → ⊥) → (last-of a J ≡ none → length (put-all [] J) < L) → has-free-slot (told mark F) ≡ true
+      → Turns k (Good mark k n L J) (Good mark k n L (J ++ setting a v ∷ [])) (append-steps a v (told mark F)) F
+  unfolding append-steps
+  append-case a v ne room free = into (active-free free)
+    where
+      into : (hd : Headed m (at-active .here)) × FreeAt (hd .ws) × (free-slot (active-slots (told mark F)) ≡ free-slot (hd .ws)) → Turns k (Good mark k n L J) (Good mark k n L (J ++ setting a v ∷ [])) (append-steps a v (told mark F)) F
+      into t =
+          let hd = t .0 in
+          let at = t .1 in
+          let pg-is : at-active .here ≡ hd .x ∷ hd .y ∷ hd .z ∷ (at .front ++ blank-word ∷ at .rest) = hd .form ∙ ap (λ (ws : List Word). hd .x ∷ hd .y ∷ hd .z ∷ ws) (at .form) in
+          append-good mark m n L J F g a v ne room (active-index (states (told mark F))) (free-slot (active-slots (told mark F))) (at-active .front) (hd .x) (hd .y) (hd .z) (at .front) (at .rest) (at-active .rest)
+          (at-active .form ∙ ap (λ (q : List Word). at-active .front ++ q ∷ at-active .rest) pg-is) active-place (t .2 ∙ sym (at .place))
+          (subst (λ (q : List Word). Newest mark b (at-active .front) q (at-active .rest)) pg-is active-newest) (at .behind)
+
+-- ---- a page is taken
+
+pub record Takes (mark m : ℕ) (F : Pages) : Type 0 where
+  pub front : Pages
+  pub first : Word
+  pub rest : Pages
+  pub form : F ≡ front ++ taken-page m first ∷ rest
+  pub place : taken (told mark F) ≡ length front
+  pub worn : is-wear mark first ≡ true
+
+-- a store with a spare page, all of whose pages are used or cleared, has a cleared one
+pub some-cleared : (mark k n L : ℕ) (J : List Setting) (F : Pages) (g : Good mark k n L J F) → count (unclean (g .base-order)) (states (told mark F)) ≡ 0 → length (g .used-by) + count is-cleared (states (told mark F)) ≡ n
+unfolding states
+some-cleared mark k n L J F g c =
+    let all = count-all (g .base-order) (states (told mark F)) in
+    let us = count-used (g .base-order) (told mark F) in
+    let os = ap length (g .keeps .has-orders) in
+    let ls : length (states (told mark F)) ≡ n = length-states (told mark F) ∙ length-map F (page mark) ∙ g .keeps .count in
+    omega arith
+  where
+    length-states : (ps : List Page) → length (states ps) ≡ length ps
+    length-states [] = refl
+    length-states (p ∷ ps) = ap suc (length-states ps)
+
+pub takes : (mark m : ℕ) (F : Pages) → AllWhole (suc (suc (suc m))) F → (count is-cleared (states (told mark F)) ≡ 0 → ⊥) → Takes mark m F
+unfolding taken index page
+takes mark m F whole h =
+    let t = taken-at 0 (told mark F) h in
+    let p = parted mark F (t .front) (t .page) (t .rest) (t .form) in
+    let e : state mark (p .here) ≡ cleared (t .wear) = ap (λ (q : Page). q .state) (p .here-told) ∙ t .is-cleared in
+    let c = cleared-is mark (p .here) (t .wear) e in
+    let w = whole-amid (suc (suc (suc m))) (p .front) (p .here) (p .rest) (subst (AllWhole (suc (suc (suc m)))) (p .form) whole) .1 in
+    let l : suc (c .rest) ≡ suc (suc (suc m)) = sym (ap suc (length-replicate (c .rest) blank-word)) ∙ sym (ap length (c .form)) ∙ w .0 in
+    let z : c .rest ≡ suc (suc m) = omega arith in
+    let d : 0 + length (t .front) ≡ length (p .front) = (let y = ap length (p .front-told) in let x = length-map (p .front) (page mark) in omega arith) in
+    record {
+      front = p .front;
+      first = c .first;
+      rest = p .rest;
+      form = p .form ∙ ap (λ (q : List Word). p .front ++ q ∷ p .rest) (c .form ∙ ap (λ (i : ℕ). c .first ∷ replicate i blank-word) z);
+      place = ap index (t .place) ∙ d;
+      worn = c .wear;
+    }
+
+module _ (mark m n L : ℕ) (J : List Setting) (F : Pages) (g : Good mark (suc (suc (suc m))) n L J F) where
+  -- the next order is above all in use
+  pub next-under : Under (active-order (states (told mark F)) + 1) (g .used-by)
+  next-under = rw (active-is mark m n L J F g) (upto-under (greatest (g .used-by)) (g .used-by) (greatest-upto (g .used-by)))
+
+  pub journal-is : journal (told mark F) ≡ J
+  unfolding journal
+  journal-is = rw (g .keeps .is-base) (g .keeps .has-journal)
+
+  pub lawful-journal : Lawful J
+  lawful-journal = subst Lawful (g .keeps .has-journal) (all-records-lawful (oldest-first (used-pages (g .base-order) (told mark F))))
+
+-- a new page for the record
+module _ (mark m n L : ℕ) (J : List Setting) (f : Pages) (w : Word) (r : Pages) (g : Good mark (suc (suc (suc m))) n L J (f ++ taken-page m w ∷ r)) (worn : is-wear mark w ≡ true) where
+  abbrev next : ℕ
+  next = active-order (states (told mark (f ++ taken-page m w ∷ r))) + 1
+
+  under : Under next (g .used-by)
+  under = next-under mark m n L J (f ++ taken-page m w ∷ r) g
+
+  abbrev wider : List ℕ
+  wider = with-order mark m n (g .base-order) (g .used-by) J f w r next worn under (g .some) (g .keeps)
+
+  wider-length : length wider ≡ suc (length (g .used-by))
+  wider-length =
+      let e = ap length (orders-apart mark m n (g .base-order) (g .used-by) J f w r next worn under (g .some) (g .keeps)) in
+      let x = length-append (orders (used-pages (g .base-order) (told mark f))) (orders (used-pages (g .base-order) (told mark r))) in
+      let y = length-append (orders (used-pages (g .base-order) (told mark f))) (next ∷ orders (used-pages (g .base-order) (told mark r))) in
+      omega arith
+
+  wider-apart : repeats wider ≡ false
+  wider-apart =
+      let e = orders-apart mark m n (g .base-order) (g .used-by) J f w r next worn under (g .some) (g .keeps) in
+      repeats-insert next (orders (used-pages (g .base-order) (told mark f))) (orders (used-pages (g .base-order) (told mark r))) (subst (Under next) e under) (subst (λ (os : List ℕ). repeats os ≡ false) e (g .apart))
+
+  opened-good : suc (length (g .used-by)) < n → (G : Pages) → Keeps mark (suc (suc (suc m))) n (g .base-order) wider J G → Good mark (suc (suc (suc m))) n L J G
+  opened-good two G h =
+      let e = wider-length in
+      record { base-order = g .base-order; used-by = wider; keeps = h; apart = wider-apart; spare = omega arith; some = omega arith; few = g .few }
+
+  kept-good : (G : Pages) → Keeps mark (suc (suc (suc m))) n (g .base-order) (g .used-by) J G → Good mark (suc (suc (suc m))) n L J G
+  kept-good G h = record { base-order = g .base-order; used-by = g .used-by; keeps = h; apart = g .apart; spare = g .spare; some = g .some; few = g .few }
+
+  opening-good : suc (length (g .used-by)) < n → Through (suc (suc (suc m))) (Good mark (suc (suc (suc m))) n L J) (word-steps (length f) opening-place (opening-word 1 next)) (f ++ taken-page m w ∷ r)
+  opening-good two =
+      turns-through (suc (suc (suc m)))
+      (turns-map (suc (suc (suc m))) kept-good (opened-good two) (opening-turns mark m n (g .base-order) (g .used-by) J f w r next worn under (g .some) (g .keeps)))
+
+module _ (mark m′ n L : ℕ) (J : List Setting) (f : Pages) (w : Word) (r : Pages) (g : Good mark (suc (suc (suc (suc m′)))) n L J (f ++ taken-page (suc m′) w ∷ r)) (worn : is-wear mark w ≡ true) where
+  abbrev k₄ : ℕ
+  k₄ = suc (suc (suc (suc m′)))
+
+  pub open-good : (a v : ℕ) → (a ≡ 65535 → ⊥) → (last-of a J ≡ none → length (put-all [] J) < L) → suc (length (g .used-by)) < n → taken (told mark (f ++ taken-page (suc m′) w ∷ r)) ≡ length f
+      → Turns k₄ (Good mark k₄ n L J) (Good mark k₄ n L (J ++ setting a v ∷ [])) (open-steps a v (told mark (f ++ taken-page (suc m′) w ∷ r))) (f ++ taken-page (suc m′) w ∷ r)
+  unfolding open-steps opened-good
+  open-good a v ne room two place =
+      let F = f ++ taken-page (suc m′) w ∷ r in
+      let o = next mark (suc m′) n L J f w r g worn in
+      let u = under mark (suc m′) n L J f w r g worn in
+      let G = f ++ begun (suc m′) w (opening-word 1 o) ∷ r in
+      let good : Good mark k₄ n L J G = opened-good mark (suc m′) n L J f w r g worn two G (opened-keeps mark (suc m′) n (g .base-order) (g .used-by) J f w r o worn u (g .some) (g .keeps)) in
+      let new = opened-newest mark (suc m′) n (g .base-order) (g .used-by) J f w r o worn u (g .some) (g .keeps) in
+      let ran : store-run k₄ (word-steps (length f) opening-place (opening-word 1 o)) F ≡ G = word-run k₄ f r (w ∷ []) (replicate (suc (suc m′)) blank-word) (opening-word 1 o) in
+      let last = append-good mark (suc m′) n L J G good a v ne room (length f) 0 f w (opening-word 1 o) blank-word [] (replicate m′ blank-word) r refl refl refl new (replicate-all-blank m′) in
+      rw place
+      (turns-after k₄ (opening-good mark (suc m′) n L J f w r g worn two)
+      (subst (Turns k₄ (Good mark k₄ n L J) (Good mark k₄ n L (J ++ setting a v ∷ [])) (word-steps (length f) (slot-place 0) (record-word a v))) (sym ran) last))

@@ -1,0 +1,213 @@
+-- A move: the held values are copied to a receiving page, and its done word makes it the store. Assumes nothing.
+use Prim.Native.Nat.{ℕ, zero, suc, _+_, _-_, _≤_, _<_, max}
+use mathlib.Core.Path.{_≡_, refl, sym, ap, _∙_, subst}
+use mathlib.Core.Logic.{_⊎_, inl, inr, ⊎-elim}
+use mathlib.Core.Bool.{Bool, true, false, not}
+use mathlib.Core.List.{List, [], _∷_, _++_, map, append-nil, append-assoc}
+use native.Mathlib.Nat.{le-of-suc-le-suc}
+use native.Mathlib.Omega.{arith}
+use lib.ListN.{length, length-append, length-map, replicate, length-replicate}
+use lib.Seq.{append-snoc}
+use lib.Dec.{leb, eqb}
+use borrow.Author.Tests.{le-leb, eq-eqb}
+use Rattle.rules.specs.Flash.{Step}
+use Rattle.rules.specs.Word.{Word, sound, record-word, opening-word, done-word, word-steps}
+use Rattle.rules.specs.Page.{blank-word, is-wear, is-opening, opening-part, done-part, State, open₁, open₂, Page, page, state, slots, slot-place, opening-place, done-place}
+use Rattle.rules.specs.Store.{states, base, order, order₂, used, is-open, used-pages, oldest-first, insert, Setting, setting, records, all-records}
+use Rattle.rules.specs.Steps.{copy-steps, renewals, add-steps, renew, renewed-wear}
+use Rattle.rules.proofs.Truth.{not-both}
+use Rattle.rules.proofs.Words.{Light, sound-light, opening-sound, record-sound, blank-not-sound, done-sound}
+use Rattle.rules.proofs.Pages.{AllLight, replicate-light, replicate-all-blank, unopened-not-open, undone-not-open, opened-received, opening-not-plain}
+use Rattle.rules.proofs.Slots.{blank-records, records-append, Lawful, written, written-records}
+use Rattle.rules.proofs.Stores.{Under, orders, base-amid, used-amid, NoneUsed, none-used, none-used-pages, under-append}
+use Rattle.promise.proofs.Phases.{Pages, Turns, Through, end, Partial, word-turns, word-run, word-through, turns-through, through-append, through-end, turns-after, turns-before, store-run, store-run-append}
+use Rattle.promise.proofs.Keeps.{Whole, AllWhole, told, Keeps, whole-amid, amid-whole, told-amid, same-count}
+use Rattle.promise.proofs.Renewals.{Idle, renewals-through}
+use Rattle.promise.proofs.Append.{whole-word}
+use Rattle.promise.proofs.Open.{begun, taken-page, closed-keeps, partial-opening, taken-whole, base-below, base-apart, under-apart}
+
+-- blank slots for the records to come, and then ys
+unfoldable pub room : List Setting → List Word → List Word
+room [] ys = ys
+room (c ∷ cs) ys = blank-word ∷ room cs ys
+
+pub room-is : (cs : List Setting) (m : ℕ) → length cs ≤ m → replicate m blank-word ≡ room cs (replicate (m - length cs) blank-word)
+unfolding room
+room-is [] m h = let e : m ≡ m - 0 = omega arith in ap (λ (i : ℕ). replicate i blank-word) e
+room-is (c ∷ cs) zero h = absurd (omega arith)
+room-is (c ∷ cs) (suc m) h =
+    let e : m - length cs ≡ suc m - suc (length cs) = omega arith in
+    ap (λ (ws : List Word). blank-word ∷ ws) (room-is cs m (le-of-suc-le-suc h) ∙ ap (λ (i : ℕ). room cs (replicate i blank-word)) e)
+
+module _ (mark m n b : ℕ) (os : List ℕ) (J : List Setting) (f : Pages) (w : Word) (r : Pages) (o : ℕ) (worn : is-wear mark w ≡ true) (under : Under o os) (some-used : 0 < length os) (h : Keeps mark (suc (suc (suc m))) n b os J (f ++ taken-page m w ∷ r)) where
+  abbrev k : ℕ
+  k = suc (suc (suc m))
+
+  abbrev Old : Pages → Type 0
+  Old = Keeps mark k n b os J
+
+  -- the page while it receives, with d for its done word
+  abbrev receives : Word → List Word → List Word
+  receives d ws = w ∷ opening-word 2 o ∷ d ∷ ws
+
+  receiving-keeps : (d : Word) (ws : List Word) → sound d ≡ false → Whole k (receives d ws) → Old (f ++ receives d ws ∷ r)
+  unfolding opening-part done-part
+  receiving-keeps d ws s q =
+      closed-keeps mark m n b os J f w r o worn under some-used h (receives d ws) q (undone-not-open mark (receives d ws) (opening-not-plain o) s)
+
+  started : Whole k (receives blank-word (replicate m blank-word))
+  started =
+      whole-word k (w ∷ []) blank-word (opening-word 2 o) (replicate (suc m) blank-word) (taken-whole mark m n b os J f w r o worn under some-used h)
+      (sound-light (opening-word 2 o) (opening-sound 2 o))
+
+  opening-through : Through k Old (word-steps (length f) opening-place (opening-word 2 o)) (f ++ taken-page m w ∷ r)
+  opening-through =
+      turns-through k
+      (word-turns k f r (w ∷ []) (replicate (suc m) blank-word) Old Old (opening-word 2 o) (opening-sound 2 o)
+      (partial-opening mark m n b os J f w r o worn under some-used h) (receiving-keeps blank-word (replicate m blank-word) blank-not-sound started))
+
+  opening-run : store-run k (word-steps (length f) opening-place (opening-word 2 o)) (f ++ taken-page m w ∷ r) ≡ f ++ receives blank-word (replicate m blank-word) ∷ r
+  opening-run = word-run k f r (w ∷ []) (replicate (suc m) blank-word) (opening-word 2 o)
+
+  -- one copy after the other
+  module _ (ys : List Word) where
+    copy-at : (a v : ℕ) (xs : List Word) (cs : List Setting) → word-steps (length f) (slot-place (length xs)) (record-word a v) ≡ word-steps (length f) (length (w ∷ opening-word 2 o ∷ blank-word ∷ xs)) (record-word a v)
+    copy-at a v xs cs = let e : slot-place (length xs) ≡ length (w ∷ opening-word 2 o ∷ blank-word ∷ xs) = omega arith in ap (λ (i : ℕ). word-steps (length f) i (record-word a v)) e
+
+    next-slot : (x : Word) (xs : List Word) → length (xs ++ x ∷ []) ≡ suc (length xs)
+    next-slot x xs = let e = length-append xs (x ∷ []) in omega arith
+
+    pub copy-run : (cs : List Setting) (xs : List Word) → store-run k (copy-steps (length f) (length xs) cs) (f ++ receives blank-word (xs ++ room cs ys) ∷ r) ≡ f ++ receives blank-word (xs ++ (written cs ++ ys)) ∷ r
+    unfolding copy-steps room written store-run
+    copy-run [] xs = refl
+    copy-run (setting a v ∷ cs) xs =
+        let x = record-word a v in
+        let rest = copy-run cs (xs ++ x ∷ []) in
+        ap (λ (ss : List Step). store-run k (ss ++ copy-steps (length f) (suc (length xs)) cs) (f ++ receives blank-word (xs ++ blank-word ∷ room cs ys) ∷ r)) (copy-at a v xs cs)
+        ∙ store-run-append k (word-steps (length f) (length (w ∷ opening-word 2 o ∷ blank-word ∷ xs)) x) (copy-steps (length f) (suc (length xs)) cs) (f ++ receives blank-word (xs ++ blank-word ∷ room cs ys) ∷ r)
+        ∙ ap (store-run k (copy-steps (length f) (suc (length xs)) cs)) (word-run k f r (w ∷ opening-word 2 o ∷ blank-word ∷ xs) (room cs ys) x)
+        ∙ (rw (next-slot x xs, append-snoc xs x (room cs ys), append-snoc xs x (written cs ++ ys)) at rest)
+
+    pub copy-through : (cs : List Setting) (xs : List Word) → Whole k (receives blank-word (xs ++ room cs ys)) → Through k Old (copy-steps (length f) (length xs) cs) (f ++ receives blank-word (xs ++ room cs ys) ∷ r)
+    unfolding copy-steps room
+    copy-through [] xs q = end (receiving-keeps blank-word (xs ++ ys) blank-not-sound q)
+    copy-through (setting a v ∷ cs) xs q =
+        let x = record-word a v in
+        let front = w ∷ opening-word 2 o ∷ blank-word ∷ xs in
+        let later = copy-steps (length f) (suc (length xs)) cs in
+        let first = word-through k f r front (room cs ys) Old x (record-sound a v) (λ u l. receiving-keeps blank-word (xs ++ u ∷ room cs ys) blank-not-sound (whole-word k front blank-word u (room cs ys) q l)) in
+        let q′ : Whole k (receives blank-word ((xs ++ x ∷ []) ++ room cs ys)) = rw append-snoc (whole-word k front blank-word x (room cs ys) q (sound-light x (record-sound a v))) in
+        let rest : Through k Old later (f ++ receives blank-word (xs ++ x ∷ room cs ys) ∷ r) = rw (next-slot x xs, append-snoc xs x (room cs ys)) at (copy-through cs (xs ++ x ∷ []) q′) in
+        subst (λ (ss : List Step). Through k Old (ss ++ later) (f ++ receives blank-word (xs ++ blank-word ∷ room cs ys) ∷ r)) (sym (copy-at a v xs cs))
+        (through-append k later first (subst (Through k Old later) (sym (word-run k f r front (room cs ys) x)) rest))
+
+  -- with its done word the page is the store
+  module _ (cs : List Setting) (lawful : Lawful cs) (j : ℕ) (full : Whole k (receives blank-word (written cs ++ replicate j blank-word))) where
+    abbrev filled : List Word
+    filled = written cs ++ replicate j blank-word
+
+    others-unused : NoneUsed o (told mark f) × NoneUsed o (told mark r)
+    others-unused =
+        let l : b ≤ o = (let x = base-below mark m n b os J f w r o worn under some-used h in omega arith) in
+        let u = under-apart mark m n b os J f w r o worn under some-used h in
+        (none-used b o (told mark f) l (u .0), none-used b o (told mark r) l (u .1))
+
+    filled-records : records filled ≡ cs
+    filled-records = records-append (written cs) (replicate j blank-word) ∙ ap (λ (rs : List Setting). records (written cs) ++ rs) (blank-records (replicate j blank-word) (replicate-all-blank j)) ∙ append-nil (records (written cs)) ∙ written-records cs lawful
+
+    pub done-keeps : Keeps mark k n o (o ∷ []) cs (f ++ receives (done-word o) filled ∷ r)
+    unfolding page orders order order₂ used slots oldest-first insert all-records
+    done-keeps =
+        let qg = receives (done-word o) filled in
+        let e : state mark qg ≡ open₂ o = opened-received mark w worn o filled in
+        let t = whole-amid k f (taken-page m w) r (h .whole) in
+        let fp = told mark f in
+        let rp = told mark r in
+        let z : order₂ (state mark qg) ≡ o = rw e in
+        let g = base-amid fp (page mark qg) rp in
+        let a = base-apart mark m n b os J f w r o worn under some-used h in
+        let l = base-below mark m n b os J f w r o worn under some-used h in
+        let d = ap (λ (ps : List Page). base (states ps)) (told-amid mark f qg r) in
+        let u : used o (state mark qg) ≡ true = rw e (le-leb o o (omega arith)) in
+        let only : used-pages o (told mark (f ++ qg ∷ r)) ≡ page mark qg ∷ [] =
+        ap (used-pages o) (told-amid mark f qg r) ∙ used-amid o fp (page mark qg) rp u
+        ∙ rw (none-used-pages o fp (others-unused .0), none-used-pages o rp (others-unused .1)) in
+        record {
+          whole = amid-whole k f qg r (t .0) (whole-word k (w ∷ opening-word 2 o ∷ []) blank-word (done-word o) filled full (sound-light (done-word o) (done-sound o))) (t .2);
+          count = same-count f (taken-page m w) qg r ∙ h .count;
+          is-base = omega arith;
+          has-orders = ap orders only ∙ rw e;
+          has-journal = ap (λ (ps : List Page). all-records (oldest-first ps)) only ∙ append-nil (records filled) ∙ filled-records;
+        }
+
+    done-turns : Turns k Old (Keeps mark k n o (o ∷ []) cs) (word-steps (length f) done-place (done-word o)) (f ++ receives blank-word filled ∷ r)
+    done-turns =
+        word-turns k f r (w ∷ opening-word 2 o ∷ []) filled Old (Keeps mark k n o (o ∷ []) cs) (done-word o) (done-sound o)
+        (λ d p. receiving-keeps d filled (p .not-sound) (whole-word k (w ∷ opening-word 2 o ∷ []) blank-word d filled full (p .light))) done-keeps
+
+    pub done-run : store-run k (word-steps (length f) done-place (done-word o)) (f ++ receives blank-word filled ∷ r) ≡ f ++ receives (done-word o) filled ∷ r
+    done-run = word-run k f r (w ∷ opening-word 2 o ∷ []) filled (done-word o)
+
+-- ---- the other pages are renewed
+
+-- what is not picked may change without a step changing
+pub renewals-skip : (mark : ℕ) (picks : ℕ → State → Bool) (i : ℕ) (fs : List Page) (p q : Page) (rs : List Page) → ((s : State) → picks (i + length fs) s ≡ false) → renewals mark picks i (fs ++ p ∷ rs) ≡ renewals mark picks i (fs ++ q ∷ rs)
+unfolding renewals add-steps
+renewals-skip mark picks i [] p q rs h = let e : i + 0 ≡ i = omega arith in let g : (s : State) → picks i s ≡ false = λ s. subst (λ (x : ℕ). picks x s ≡ false) e (h s) in rw (g (p .state), g (q .state))
+renewals-skip mark picks i (x ∷ fs) p q rs h =
+    let e : i + suc (length fs) ≡ suc i + length fs = omega arith in
+    ap (add-steps (picks i (x .state)) (renew mark i (renewed-wear (x .wear)))) (renewals-skip mark picks (suc i) fs p q rs (λ s. subst (λ (x : ℕ). picks x s ≡ false) e (h s)))
+
+-- pages that are not used may be picked
+idle-unused : (mark o : ℕ) (picks : ℕ → State → Bool) (i : ℕ) (F : Pages) → NoneUsed o (told mark F) → Idle mark o picks i F
+unfolding NoneUsed Idle page
+idle-unused mark o picks i [] h = tt
+idle-unused mark o picks i (pg ∷ F) h = (λ t. h .0, idle-unused mark o picks (suc i) F (h .1))
+
+idle-amid : (mark o : ℕ) (picks : ℕ → State → Bool) (i : ℕ) (f : Pages) (pg : List Word) (r : Pages) → NoneUsed o (told mark f) → NoneUsed o (told mark r) → ((s : State) → picks (i + length f) s ≡ false) → Idle mark o picks i (f ++ pg ∷ r)
+unfolding NoneUsed Idle page
+idle-amid mark o picks i [] pg r a c h = let e : i + 0 ≡ i = omega arith in (λ t. not-both t (subst (λ (x : ℕ). picks x (state mark pg) ≡ false) e (h (state mark pg))), idle-unused mark o picks (suc i) r c)
+idle-amid mark o picks i (x ∷ f) pg r a c h =
+    let e : i + suc (length f) ≡ suc i + length f = omega arith in
+    (λ t. a .0, idle-amid mark o picks (suc i) f pg r (a .1) c (λ s. subst (λ (x : ℕ). picks x s ≡ false) e (h s)))
+
+-- ---- the whole move
+
+module _ (mark m n b : ℕ) (os : List ℕ) (J : List Setting) (f : Pages) (w : Word) (r : Pages) (o : ℕ) (worn : is-wear mark w ≡ true) (under : Under o os) (some-used : 0 < length os) (h : Keeps mark (suc (suc (suc m))) n b os J (f ++ taken-page m w ∷ r)) where
+  abbrev other : ℕ → State → Bool
+  other i s = not (eqb i (length f))
+
+  other-not : (s : State) → other (0 + length f) s ≡ false
+  other-not s = let e : 0 + length f ≡ length f = omega arith in rw e (ap not (eq-eqb (length f) (length f) refl))
+
+  pub move-turns : (cs : List Setting) → Lawful cs → length cs ≤ m
+      → Turns (suc (suc (suc m))) (Keeps mark (suc (suc (suc m))) n b os J) (Keeps mark (suc (suc (suc m))) n o (o ∷ []) cs)
+      (word-steps (length f) opening-place (opening-word 2 o) ++ copy-steps (length f) 0 cs ++ word-steps (length f) done-place (done-word o) ++ renewals mark other 0 (told mark (f ++ taken-page m w ∷ r)))
+      (f ++ taken-page m w ∷ r)
+  unfolding page
+  move-turns cs lawful fits =
+      let k = suc (suc (suc m)) in
+      let j = m - length cs in
+      let opening = word-steps (length f) opening-place (opening-word 2 o) in
+      let copying = copy-steps (length f) 0 cs in
+      let doing = word-steps (length f) done-place (done-word o) in
+      let F = f ++ taken-page m w ∷ r in
+      let spare = room-is cs m fits in
+      let begins : Whole k (w ∷ opening-word 2 o ∷ blank-word ∷ room cs (replicate j blank-word)) = rw spare at (started mark m n b os J f w r o worn under some-used h) in
+      let copies = copy-through mark m n b os J f w r o worn under some-used h (replicate j blank-word) cs [] begins in
+      let copied = copy-run mark m n b os J f w r o worn under some-used h (replicate j blank-word) cs [] in
+      let opened : store-run k opening F ≡ f ++ (w ∷ opening-word 2 o ∷ blank-word ∷ room cs (replicate j blank-word)) ∷ r = opening-run mark m n b os J f w r o worn under some-used h ∙ ap (λ (ws : List Word). f ++ (w ∷ opening-word 2 o ∷ blank-word ∷ ws) ∷ r) spare in
+      let first = through-append k copying (opening-through mark m n b os J f w r o worn under some-used h) (subst (Through k (Keeps mark k n b os J) copying) (sym opened) copies) in
+      let full : Whole k (w ∷ opening-word 2 o ∷ blank-word ∷ (written cs ++ replicate j blank-word)) = whole-amid k f (w ∷ opening-word 2 o ∷ blank-word ∷ (written cs ++ replicate j blank-word)) r (subst (Keeps mark k n b os J) copied (through-end k copies) .whole) .1 in
+      let New = Keeps mark k n o (o ∷ []) cs in
+      let G = f ++ (w ∷ opening-word 2 o ∷ done-word o ∷ (written cs ++ replicate j blank-word)) ∷ r in
+      let ran : store-run k (opening ++ copying) F ≡ f ++ (w ∷ opening-word 2 o ∷ blank-word ∷ (written cs ++ replicate j blank-word)) ∷ r = store-run-append k opening copying F ∙ ap (store-run k copying) opened ∙ copied in
+      let second = turns-after k first (subst (Turns k (Keeps mark k n b os J) New doing) (sym ran) (done-turns mark m n b os J f w r o worn under some-used h cs lawful j full)) in
+      let done : store-run k (opening ++ copying ++ doing) F ≡ G = store-run-append k (opening ++ copying) doing F ∙ ap (store-run k doing) ran ∙ done-run mark m n b os J f w r o worn under some-used h cs lawful j full in
+      let unused = others-unused mark m n b os J f w r o worn under some-used h cs lawful j full in
+      let renewing = renewals-through mark (suc (suc m)) n o (o ∷ []) cs other [] G (idle-amid mark o other 0 f (w ∷ opening-word 2 o ∷ done-word o ∷ (written cs ++ replicate j blank-word)) r (unused .0) (unused .1) other-not) (done-keeps mark m n b os J f w r o worn under some-used h cs lawful j full) in
+      let alike : renewals mark other 0 (told mark G) ≡ renewals mark other 0 (told mark F) =
+      ap (renewals mark other 0) (told-amid mark f (w ∷ opening-word 2 o ∷ done-word o ∷ (written cs ++ replicate j blank-word)) r)
+      ∙ renewals-skip mark other 0 (told mark f) (page mark (w ∷ opening-word 2 o ∷ done-word o ∷ (written cs ++ replicate j blank-word))) (page mark (taken-page m w)) (told mark r) (rw length-map other-not)
+      ∙ ap (renewals mark other 0) (sym (told-amid mark f (taken-page m w) r)) in
+      turns-before k (renewals mark other 0 (told mark F)) second (subst (Through k New (renewals mark other 0 (told mark F))) (sym done) (subst (λ (ss : List Step). Through k New ss G) alike renewing))

@@ -1,0 +1,116 @@
+-- Recovery, and the tail of a move: pages that are not used are renewed, and the store keeps its journal. Assumes nothing.
+use Prim.Native.Nat.{ℕ, zero, suc, _+_, _≤_, _<_}
+use mathlib.Core.Path.{_≡_, refl, sym, ap, _∙_, subst}
+use mathlib.Core.Logic.{_⊎_, inl, inr, ⊎-elim}
+use mathlib.Core.Bool.{Bool, true, false, cond}
+use mathlib.Core.List.{List, [], _∷_, _++_, map, append-assoc}
+use native.Mathlib.Omega.{arith}
+use lib.ListN.{length, length-append, replicate, length-replicate}
+use lib.Seq.{append-snoc}
+use Rattle.rules.specs.Flash.{Step, erase}
+use Rattle.rules.specs.Word.{Word, wear-word, word-steps}
+use Rattle.rules.specs.Page.{blank-word, State, Page, page, state, wear-in}
+use Rattle.rules.specs.Store.{used, Setting}
+use Rattle.rules.specs.Steps.{renew, renewed-wear, add-steps, renewals}
+use Rattle.rules.proofs.Truth.{by-cases}
+use Rattle.rules.proofs.Words.{Light, wear-sound}
+use Rattle.rules.proofs.Shape.{target, page-after, WordsRise, PageFails, erasing, store-after, StoreFails}
+use Rattle.rules.proofs.Pages.{AllLight, replicate-light, rise-light, rise-length, rise-fades, fresh-not-open}
+use Rattle.promise.proofs.Phases.{Pages, Through, end, step, store-run, store-run-append, through-end, through-append, after-amid, fails-amid, word-through, word-run, Fits, here-fits}
+use Rattle.promise.proofs.Keeps.{Whole, AllWhole, Keeps, whole-amid, keeps-fade}
+
+erase-fails : {p : ℕ} {pg qg : List Word} → PageFails (erase p) pg qg → WordsRise pg qg
+erase-fails (erasing r) = r
+
+-- a renewed page
+abbrev pub fresh : (mark k′ wear : ℕ) → List Word
+fresh mark k′ wear = wear-word mark wear ∷ replicate k′ blank-word
+
+-- the pages that are picked are not used
+unfoldable pub Idle : (mark b : ℕ) → (ℕ → State → Bool) → ℕ → Pages → Type 0
+Idle mark b picks i [] = Unit {0}
+Idle mark b picks i (pg ∷ F) = (picks i (state mark pg) ≡ true → used b (state mark pg) ≡ false) × Idle mark b picks (suc i) F
+
+-- the pages as renewed
+unfoldable pub renewed : (mark k′ : ℕ) → (ℕ → State → Bool) → ℕ → Pages → Pages
+renewed mark k′ picks i [] = []
+renewed mark k′ picks i (pg ∷ F) = cond (picks i (state mark pg)) (fresh mark k′ (renewed-wear (wear-in mark pg))) pg ∷ renewed mark k′ picks (suc i) F
+
+pub next-length : (f : Pages) (qg : List Word) → length (f ++ qg ∷ []) ≡ suc (length f)
+next-length f qg = let e = length-append f (qg ∷ []) in omega arith
+
+module _ (mark k′ : ℕ) (f : Pages) (pg : List Word) (r : Pages) (wear : ℕ) where
+  pub erased : store-after (suc k′) (erase (length f)) (f ++ pg ∷ r) ≡ f ++ replicate (suc k′) blank-word ∷ r
+  unfolding target page-after
+  erased = after-amid (suc k′) f pg r (erase (length f)) refl
+
+  pub renew-run : store-run (suc k′) (renew mark (length f) wear) (f ++ pg ∷ r) ≡ f ++ fresh mark k′ wear ∷ r
+  unfolding renew store-run
+  renew-run =
+      ap (store-run (suc k′) (word-steps (length f) 0 (wear-word mark wear))) erased
+      ∙ word-run (suc k′) f r [] (replicate k′ blank-word) (wear-word mark wear)
+
+module _ (mark k′ : ℕ) (picks : ℕ → State → Bool) where
+  -- the steps for the pages from the i-th on
+  abbrev rest-steps : ℕ → Pages → List Step
+  rest-steps i F = renewals mark picks i (map (page mark) F)
+
+  onward : (f : Pages) (qg : List Word) (F : Pages)
+      → store-run (suc k′) (rest-steps (length (f ++ qg ∷ [])) F) ((f ++ qg ∷ []) ++ F) ≡ (f ++ qg ∷ []) ++ renewed mark k′ picks (length (f ++ qg ∷ [])) F
+      → store-run (suc k′) (rest-steps (suc (length f)) F) (f ++ qg ∷ F) ≡ f ++ qg ∷ renewed mark k′ picks (suc (length f)) F
+  onward f qg F h = rw (next-length f qg, append-snoc f qg F, append-snoc f qg (renewed mark k′ picks (suc (length f)) F)) at h
+
+  pub renewals-run : (f F : Pages) → store-run (suc k′) (rest-steps (length f) F) (f ++ F) ≡ f ++ renewed mark k′ picks (length f) F
+  unfolding renewals renewed add-steps page store-run
+  renewals-run f [] = refl
+  renewals-run f (pg ∷ F) =
+      by-cases (picks (length f) (state mark pg))
+      (λ t.
+      let w = renewed-wear (wear-in mark pg) in
+      rw t
+      (store-run-append (suc k′) (renew mark (length f) w) (rest-steps (suc (length f)) F) (f ++ pg ∷ F)
+      ∙ ap (store-run (suc k′) (rest-steps (suc (length f)) F)) (renew-run mark k′ f pg F w)
+      ∙ onward f (fresh mark k′ w) F (renewals-run (f ++ fresh mark k′ w ∷ []) F)))
+      (λ t. rw t (onward f pg F (renewals-run (f ++ pg ∷ []) F)))
+
+module _ (mark k′ n b : ℕ) (os : List ℕ) (J : List Setting) where
+  abbrev pub Keeping : Pages → Type 0
+  Keeping = Keeps mark (suc k′) n b os J
+
+  pub renew-through : (f : Pages) (pg : List Word) (r : Pages) (wear : ℕ) → used b (state mark pg) ≡ false → Keeping (f ++ pg ∷ r) → Through (suc k′) Keeping (renew mark (length f) wear) (f ++ pg ∷ r)
+  unfolding renew target AllLight Fits
+  renew-through f pg r wear u h =
+      let w = whole-amid (suc k′) f pg r (h .whole) .1 in
+      let started : (v : Word) → Light v → Keeping (f ++ (v ∷ replicate k′ blank-word) ∷ r) =
+      λ v l. keeps-fade mark (suc k′) n b os J f pg (v ∷ replicate k′ blank-word) r u (inr (fresh-not-open mark v k′))
+      (ap suc (length-replicate k′ blank-word), (l, replicate-light k′)) h in
+      let rest = word-through (suc k′) f r [] (replicate k′ blank-word) Keeping (wear-word mark wear) (wear-sound mark wear) started in
+      step (here-fits (suc k′) f pg r) h
+      (λ G x.
+      let y = fails-amid (suc k′) f pg r (erase (length f)) G refl x in
+      let rise = erase-fails (y .1) in
+      subst Keeping (sym (y .2))
+      (keeps-fade mark (suc k′) n b os J f pg (y .0) r u (rise-fades mark rise (w .1)) (sym (rise-length rise) ∙ w .0, rise-light rise (w .1)) h))
+      (subst (Through (suc k′) Keeping _) (sym (erased mark k′ f pg r wear)) rest)
+
+  module _ (picks : ℕ → State → Bool) where
+    onward-through : (f : Pages) (qg : List Word) (F : Pages)
+        → Through (suc k′) Keeping (rest-steps mark k′ picks (length (f ++ qg ∷ [])) F) ((f ++ qg ∷ []) ++ F)
+        → Through (suc k′) Keeping (rest-steps mark k′ picks (suc (length f)) F) (f ++ qg ∷ F)
+    onward-through f qg F h = rw (next-length f qg, append-snoc f qg F) at h
+
+    pub renewals-through : (f F : Pages) → Idle mark b picks (length f) F → Keeping (f ++ F) → Through (suc k′) Keeping (renewals mark picks (length f) (map (page mark) F)) (f ++ F)
+    unfolding renewals add-steps page Idle
+    renewals-through f [] i h = end h
+    renewals-through f (pg ∷ F) i h =
+        by-cases (picks (length f) (state mark pg))
+        (λ t.
+        let w = renewed-wear (wear-in mark pg) in
+        let first = renew-through f pg F w (i .0 t) h in
+        let done = renew-run mark k′ f pg F w in
+        let kept : Keeping ((f ++ fresh mark k′ w ∷ []) ++ F) = rw append-snoc (subst Keeping done (through-end (suc k′) first)) in
+        let rest = renewals-through (f ++ fresh mark k′ w ∷ []) F (rw (next-length f (fresh mark k′ w)) (i .1)) kept in
+        rw t (through-append (suc k′) (rest-steps mark k′ picks (suc (length f)) F) first (subst (Through (suc k′) Keeping _) (sym done) (onward-through f (fresh mark k′ w) F rest))))
+        (λ t.
+        let rest = renewals-through (f ++ pg ∷ []) F (rw (next-length f pg) (i .1)) (rw append-snoc h) in
+        rw t (onward-through f pg F rest))

@@ -1,0 +1,83 @@
+-- Bits that only rise, and the zero count: each law over the width, by one induction. Assumes nothing.
+use Prim.Native.Nat.{ℕ, zero, suc, _+_, _-_, _*_, _/_, _%_, _^_, _≤_, _<_}
+use mathlib.Core.Path.{_≡_, refl, sym, ap, _∙_}
+use native.Mathlib.Nat.{pow-suc}
+use lib.Pow.{pow-pos}
+use native.Mathlib.Omega.{arith}
+use Rattle.rules.specs.Flash.{Rises}
+use Rattle.rules.specs.Word.{zeros}
+
+-- a number is its lowest bit and its half
+halves : (a b : ℕ) → a % 2 ≡ b % 2 → a / 2 ≡ b / 2 → a ≡ b
+halves a b p q = omega arith
+
+halves-le : (a b : ℕ) → a % 2 ≤ b % 2 → a / 2 ≤ b / 2 → a ≤ b
+halves-le a b p q = omega arith
+
+pub rises-refl : (k a : ℕ) → Rises k a a
+unfolding Rises
+rises-refl zero a = refl
+rises-refl (suc k) a = (omega arith, rises-refl k (a / 2))
+
+pub rises-trans : (k a b c : ℕ) → Rises k a b → Rises k b c → Rises k a c
+unfolding Rises
+rises-trans zero a b c p q = p ∙ q
+rises-trans (suc k) a b c p q = (omega arith, rises-trans k (a / 2) (b / 2) (c / 2) (p .1) (q .1))
+
+-- what rises does not fall
+pub rises-le : (k a b : ℕ) → Rises k a b → a ≤ b
+unfolding Rises
+rises-le zero a b p = omega arith
+rises-le (suc k) a b p = halves-le a b (p .0) (rises-le k (a / 2) (b / 2) (p .1))
+
+-- there are at most as many zeros as bits
+pub zeros-bound : (k a : ℕ) → zeros k a ≤ k
+unfolding zeros
+zeros-bound zero a = omega arith
+zeros-bound (suc k) a = let h = zeros-bound k (a / 2) in omega arith
+
+-- where bits rise, zeros go
+pub zeros-fall : (k a b : ℕ) → Rises k a b → zeros k b ≤ zeros k a
+unfolding Rises zeros
+zeros-fall zero a b p = omega arith
+zeros-fall (suc k) a b p = let h = zeros-fall k (a / 2) (b / 2) (p .1) in let l : a % 2 ≤ b % 2 = p .0 in omega arith
+
+-- where none goes, no bit has risen
+pub zeros-stay : (k a b : ℕ) → Rises k a b → zeros k a ≤ zeros k b → a ≡ b
+unfolding Rises zeros
+zeros-stay zero a b p e = p
+zeros-stay (suc k) a b p e =
+    let h = zeros-fall k (a / 2) (b / 2) (p .1) in
+    let l : a % 2 ≤ b % 2 = p .0 in
+    halves a b (omega arith) (zeros-stay k (a / 2) (b / 2) (p .1) (omega arith))
+
+-- within the width every number rises to the one with all bits set
+pub rises-top : (k a : ℕ) → a < 2 ^ k → Rises k a (2 ^ k - 1)
+unfolding Rises
+rises-top zero a h = omega arith
+rises-top (suc k) a h =
+    let e : 2 ^ suc k ≡ 2 ^ k * 2 = pow-suc 2 k in
+    let pos : 0 < 2 ^ k = pow-pos k in
+    let half : (2 ^ suc k - 1) / 2 ≡ 2 ^ k - 1 = omega arith in
+    (omega arith, rw half (rises-top k (a / 2) (omega arith)))
+
+-- and that one rises to no other
+pub top-stays : (k a : ℕ) → Rises k (2 ^ k - 1) a → a ≡ 2 ^ k - 1
+unfolding Rises
+top-stays zero a p = sym p
+top-stays (suc k) a p =
+    let e : 2 ^ suc k ≡ 2 ^ k * 2 = pow-suc 2 k in
+    let pos : 0 < 2 ^ k = pow-pos k in
+    let half : (2 ^ suc k - 1) / 2 ≡ 2 ^ k - 1 = omega arith in
+    let low : (2 ^ suc k - 1) % 2 ≤ a % 2 = p .0 in
+    let rest : a / 2 ≡ 2 ^ k - 1 = top-stays k (a / 2) (rw half at (p .1)) in
+    omega arith
+
+-- what is within the width stays within it
+pub rises-within : (k a b : ℕ) → a < 2 ^ k → Rises k a b → b < 2 ^ k
+unfolding Rises
+rises-within zero a b h p = omega arith
+rises-within (suc k) a b h p =
+    let e : 2 ^ suc k ≡ 2 ^ k * 2 = pow-suc 2 k in
+    let half : b / 2 < 2 ^ k = rises-within k (a / 2) (b / 2) (omega arith) (p .1) in
+    omega arith

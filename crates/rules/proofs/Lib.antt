@@ -1,0 +1,10 @@
+-- Laws about the definitions, which the crates below cite.
+pub mod Truth
+pub mod Bits
+pub mod Words
+pub mod Shape
+pub mod Cut
+pub mod Pages
+pub mod Settings
+pub mod Slots
+pub mod Stores

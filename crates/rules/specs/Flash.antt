@@ -1,0 +1,70 @@
+-- 01, "The flash and how it fails". An image is a list of bytes, and a page is `size` of them.
+use Prim.Native.Nat.{ℕ, zero, suc, _+_, _*_, _/_, _%_, _≤_}
+use mathlib.Core.Path.{_≡_}
+use mathlib.Core.List.{List, [], _∷_}
+use lib.ListN.{length, take, drop, replicate}
+use lib.Seq.{sets}
+
+-- A word of four bytes has two half-words, "two bytes at an even offset, low byte first".
+pub data Half : Type 0 where
+  first second : Half
+
+-- "A step is one of two": program one half-word, named by its page and its word there; erase one page.
+pub data Step : Type 0 where
+  program : (page word : ℕ) → Half → (low high : ℕ) → Step
+  erase : (page : ℕ) → Step
+
+abbrev pub half-offset : Half → ℕ
+half-offset first = 0
+half-offset second = 2
+
+-- where a step works
+unfoldable pub offset : ℕ → Step → ℕ
+offset size (program p w h low high) = p * size + 4 * w + half-offset h
+offset size (erase p) = p * size
+
+-- the bytes that a step is to leave there: an erased page is 255 throughout
+unfoldable pub aim : ℕ → Step → List ℕ
+aim size (program p w h low high) = low ∷ high ∷ []
+aim size (erase p) = replicate size 255
+
+-- the bytes that stand there
+unfoldable pub bytes-at : ℕ → ℕ → List ℕ → List ℕ
+bytes-at o n i = take n (drop o i)
+
+-- "Only one that reads 65,535 may be programmed." A page that is erased lies in the image.
+unfoldable pub Allowed : ℕ → Step → List ℕ → Type 0
+Allowed size (program p w h low high) i = bytes-at (offset size (program p w h low high)) 2 i ≡ 255 ∷ 255 ∷ []
+Allowed size (erase p) i = p * size + size ≤ length i
+
+-- the image after a step
+unfoldable pub after : ℕ → Step → List ℕ → List ℕ
+after size s i = sets i (offset size s) (aim size s)
+
+-- the image after a list of steps
+unfoldable pub run : ℕ → List Step → List ℕ → List ℕ
+run size [] i = i
+run size (s ∷ ss) i = run size ss (after size s i)
+
+-- Of the lowest `width` bits none falls from 1 to 0, each 0 may have become 1, and the rest of the number is the same.
+unfoldable pub Rises : (width : ℕ) → ℕ → ℕ → Type 0
+Rises zero a b = a ≡ b
+Rises (suc k) a b = (a % 2 ≤ b % 2) × Rises k (a / 2) (b / 2)
+
+-- the same of bytes, one by one
+pub data AllRise : List ℕ → List ℕ → Type 0 where
+  none : AllRise [] []
+  more : {a b : ℕ} {xs ys : List ℕ} → Rises 8 a b → AllRise xs ys → AllRise (a ∷ xs) (b ∷ ys)
+
+-- What the bytes of a failing step rise from. "In a failing program step, each bit that was to become 0 may stay 1; the
+-- rest of the half-word ends as intended": from what was intended. "In a failing erase, each 0 bit of the page may stay 0;
+-- no 1 becomes 0": from what stood there.
+unfoldable pub least : ℕ → Step → List ℕ → List ℕ
+least size (program p w h low high) i = low ∷ high ∷ []
+least size (erase p) i = bytes-at (p * size) size i
+
+-- what a failing step may leave: "No other bit changes."
+pub record Fails (size : ℕ) (s : Step) (i j : List ℕ) : Type 0 where
+  pub left : List ℕ
+  pub rises : AllRise (least size s i) left
+  pub image : j ≡ sets i (offset size s) left

@@ -1,0 +1,60 @@
+-- 01, example 12: the bytes that the listing program prints.
+use Prim.Native.Nat.{ℕ, zero, suc, _+_, _/_, _%_}
+use mathlib.Core.Bool.{cond}
+use mathlib.Core.List.{List, [], _∷_, _++_}
+use lib.ListN.{length}
+use lib.Dec.{ltb}
+use Rattle.rules.specs.Page.{Page}
+use Rattle.rules.specs.Store.{states, base, used, is-cleared, active-order, count, Setting, setting, settings, held}
+use Rattle.rules.specs.Call.{store-number, accepted, pages}
+
+-- a number in decimal digits, no more than `places`: none here has over seven
+unfoldable pub decimal-in : (places : ℕ) → ℕ → List ℕ
+decimal-in zero n = []
+decimal-in (suc k) n = cond (ltb n 10) ((48 + n) ∷ []) (decimal-in k (n / 10) ++ ((48 + n % 10) ∷ []))
+
+unfoldable pub decimal : ℕ → List ℕ
+decimal n = decimal-in 8 n
+
+-- the texts "pages ", " used ", " cleared ", " order ", " held ", "refused ", a space and a line feed
+abbrev pub text-pages : List ℕ
+text-pages = 112 ∷ 97 ∷ 103 ∷ 101 ∷ 115 ∷ 32 ∷ []
+
+abbrev pub text-used : List ℕ
+text-used = 32 ∷ 117 ∷ 115 ∷ 101 ∷ 100 ∷ 32 ∷ []
+
+abbrev pub text-cleared : List ℕ
+text-cleared = 32 ∷ 99 ∷ 108 ∷ 101 ∷ 97 ∷ 114 ∷ 101 ∷ 100 ∷ 32 ∷ []
+
+abbrev pub text-order : List ℕ
+text-order = 32 ∷ 111 ∷ 114 ∷ 100 ∷ 101 ∷ 114 ∷ 32 ∷ []
+
+abbrev pub text-held : List ℕ
+text-held = 32 ∷ 104 ∷ 101 ∷ 108 ∷ 100 ∷ 32 ∷ []
+
+abbrev pub text-refused : List ℕ
+text-refused = 114 ∷ 101 ∷ 102 ∷ 117 ∷ 115 ∷ 101 ∷ 100 ∷ 32 ∷ []
+
+abbrev pub space : List ℕ
+space = 32 ∷ []
+
+abbrev pub line-end : List ℕ
+line-end = 10 ∷ []
+
+-- "number of pages, of used and of cleared pages, the active order, the number held"
+unfoldable pub first-line : List Page → List ℕ
+first-line ps =
+    text-pages ++ decimal (length ps) ++ text-used ++ decimal (count (used (base (states ps))) (states ps)) ++ text-cleared
+    ++ decimal (count is-cleared (states ps)) ++ text-order ++ decimal (active-order (states ps)) ++ text-held
+    ++ decimal (held ps) ++ line-end
+
+-- "Then address and value, addresses rising."
+unfoldable pub setting-lines : List Setting → List ℕ
+setting-lines [] = []
+setting-lines (setting a v ∷ rs) = decimal a ++ space ++ decimal v ++ line-end ++ setting-lines rs
+
+-- "It refuses as recovery does and then prints one line, `refused` and the number."
+unfoldable pub listing : List ℕ → List ℕ
+listing i =
+    cond (accepted (store-number i)) (first-line (pages i) ++ setting-lines (settings (pages i)))
+    (text-refused ++ decimal (store-number i) ++ line-end)

@@ -1,0 +1,199 @@
+-- 01, "Page states", from the base order on; the free slot and the cleared page of least wear, from "Write".
+-- A store is the list of its pages, by index.
+use Prim.Native.Nat.{ℕ, zero, suc, _+_, max}
+use mathlib.Core.Bool.{Bool, true, false, cond, not, _&&_, _||_}
+use mathlib.Core.List.{List, [], _∷_, _++_, map}
+use mathlib.Core.Option.{Option, none, some}
+use lib.ListN.{length}
+use lib.Dec.{eqb, leb, ltb}
+use Rattle.rules.specs.Word.{Word, low16, third, blank, Condition, Sound, Blank, Spoiled, slot-condition}
+use Rattle.rules.specs.Page.{State, cleared, open₁, open₂, receiving, bad, Page}
+
+unfoldable pub states : List Page → List State
+states [] = []
+states (p ∷ ps) = p .state ∷ states ps
+
+-- "The base order is the greatest order of an open page of kind 2, or 0 if there is none."
+unfoldable pub order₂ : State → ℕ
+order₂ (cleared n) = 0
+order₂ (open₁ o) = 0
+order₂ (open₂ o) = o
+order₂ receiving = 0
+order₂ bad = 0
+
+unfoldable pub base : List State → ℕ
+base [] = 0
+base (s ∷ ss) = max (order₂ s) (base ss)
+
+-- "Used pages are the open ones of that order or greater."
+unfoldable pub used : (base : ℕ) → State → Bool
+used b (cleared n) = false
+used b (open₁ o) = leb b o
+used b (open₂ o) = leb b o
+used b receiving = false
+used b bad = false
+
+unfoldable pub is-cleared : State → Bool
+is-cleared (cleared n) = true
+is-cleared (open₁ o) = false
+is-cleared (open₂ o) = false
+is-cleared receiving = false
+is-cleared bad = false
+
+unfoldable pub is-open : State → Bool
+is-open (cleared n) = false
+is-open (open₁ o) = true
+is-open (open₂ o) = true
+is-open receiving = false
+is-open bad = false
+
+unfoldable pub order : State → ℕ
+order (cleared n) = 0
+order (open₁ o) = o
+order (open₂ o) = o
+order receiving = 0
+order bad = 0
+
+-- the orders of the used pages
+unfoldable pub add-order : Bool → ℕ → List ℕ → List ℕ
+add-order true o os = o ∷ os
+add-order false o os = os
+
+unfoldable pub used-orders : (base : ℕ) → List State → List ℕ
+used-orders b [] = []
+used-orders b (s ∷ ss) = add-order (used b s) (order s) (used-orders b ss)
+
+unfoldable pub greatest : List ℕ → ℕ
+greatest [] = 0
+greatest (o ∷ os) = max o (greatest os)
+
+-- "The active page is the used one of greatest order": its order, and its index
+unfoldable pub active-order : List State → ℕ
+active-order ss = greatest (used-orders (base ss) ss)
+
+unfoldable pub is-active : (base order : ℕ) → State → Bool
+is-active b o s = used b s && eqb (order s) o
+
+unfoldable pub index-of : (State → Bool) → List State → ℕ
+index-of test [] = 0
+index-of test (s ∷ ss) = cond (test s) 0 (suc (index-of test ss))
+
+unfoldable pub active-index : List State → ℕ
+active-index ss = index-of (is-active (base ss) (active-order ss)) ss
+
+-- the used pages, the oldest first
+unfoldable pub add-page : Bool → Page → List Page → List Page
+add-page true p ps = p ∷ ps
+add-page false p ps = ps
+
+unfoldable pub used-pages : (base : ℕ) → List Page → List Page
+used-pages b [] = []
+used-pages b (p ∷ ps) = add-page (used b (p .state)) p (used-pages b ps)
+
+unfoldable pub insert : Page → List Page → List Page
+insert p [] = p ∷ []
+insert p (q ∷ qs) = cond (leb (order (p .state)) (order (q .state))) (p ∷ q ∷ qs) (q ∷ insert p qs)
+
+unfoldable pub oldest-first : List Page → List Page
+oldest-first [] = []
+oldest-first (p ∷ ps) = insert p (oldest-first ps)
+
+-- an address with its value
+pub data Setting : Type 0 where
+  setting : (address value : ℕ) → Setting
+
+-- the records of a page that count, in slot order
+unfoldable pub add-record : Condition → Word → List Setting → List Setting
+add-record Sound w rs = setting (low16 w) (third w) ∷ rs
+add-record Blank w rs = rs
+add-record Spoiled w rs = rs
+
+unfoldable pub records : List Word → List Setting
+records [] = []
+records (w ∷ ws) = add-record (slot-condition w) w (records ws)
+
+-- the records of several pages, one page after the other
+unfoldable pub all-records : List Page → List Setting
+all-records [] = []
+all-records (p ∷ ps) = records (p .slots) ++ all-records ps
+
+-- the records of the used pages, from the first slot of the oldest to the last of the active one
+unfoldable pub journal : List Page → List Setting
+journal ps = all-records (oldest-first (used-pages (base (states ps)) ps))
+
+-- "The value of an address is the one in the last sound slot that names it": the last that the journal has
+unfoldable pub or-else : Option ℕ → Option ℕ → Option ℕ
+or-else none o = o
+or-else (some v) o = some v
+
+unfoldable pub last-of : (address : ℕ) → List Setting → Option ℕ
+last-of a [] = none
+last-of a (setting b v ∷ rs) = or-else (last-of a rs) (cond (eqb a b) (some v) none)
+
+unfoldable pub value : (address : ℕ) → List Page → Option ℕ
+value a ps = last-of a (journal ps)
+
+-- "An address found so is held": the held addresses, rising, each with its value. A record takes its address's place.
+unfoldable pub put : Setting → List Setting → List Setting
+put s [] = s ∷ []
+put (setting a v) (setting b u ∷ rs) =
+    cond (ltb a b) (setting a v ∷ setting b u ∷ rs)
+    (cond (eqb a b) (setting a v ∷ rs) (setting b u ∷ put (setting a v) rs))
+
+unfoldable pub put-all : List Setting → List Setting → List Setting
+put-all held [] = held
+put-all held (r ∷ rs) = put-all (put r held) rs
+
+unfoldable pub settings : List Page → List Setting
+settings ps = put-all [] (journal ps)
+
+unfoldable pub held : List Page → ℕ
+held ps = length (settings ps)
+
+-- "The free slot is the one after the last slot that isn't blank": how many slots come before it
+unfoldable pub past : Bool → ℕ → ℕ
+past true zero = zero
+past true (suc n) = suc (suc n)
+past false n = suc n
+
+unfoldable pub free-slot : List Word → ℕ
+free-slot [] = 0
+free-slot (w ∷ ws) = past (blank w) (free-slot ws)
+
+-- the slots of the active page
+unfoldable pub slots-at : ℕ → List Page → List Word
+slots-at k [] = []
+slots-at zero (p ∷ ps) = p .slots
+slots-at (suc k) (p ∷ ps) = slots-at k ps
+
+unfoldable pub active-slots : List Page → List Word
+active-slots ps = slots-at (active-index (states ps)) ps
+
+-- the cleared pages: how many, and the one "of least wear, lowest index on a tie"
+unfoldable pub count : (State → Bool) → List State → ℕ
+count test [] = 0
+count test (s ∷ ss) = cond (test s) 1 0 + count test ss
+
+pub data Candidate : Type 0 where
+  nobody : Candidate
+  page : (index wear : ℕ) → Candidate
+
+unfoldable pub better : Candidate → Candidate → Candidate
+better nobody other = other
+better (page k n) nobody = page k n
+better (page k n) (page j m) = cond (leb n m) (page k n) (page j m)
+
+unfoldable pub offered : (index : ℕ) → State → Candidate
+offered k (cleared n) = page k n
+offered k (open₁ o) = nobody
+offered k (open₂ o) = nobody
+offered k receiving = nobody
+offered k bad = nobody
+
+unfoldable pub least-worn : (index : ℕ) → List State → Candidate
+least-worn k [] = nobody
+least-worn k (s ∷ ss) = better (offered k s) (least-worn (suc k) ss)
+
+unfoldable pub index : Candidate → ℕ
+index nobody = 0
+index (page k n) = k

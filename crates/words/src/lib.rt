@@ -1,0 +1,146 @@
+// Words of four bytes: the check, the three conditions, the makers and the readers of 01, "Words".
+ghost use mathlib.Core.Path.{_≡_};
+ghost use Prim.Native.Nat.{_+_, _≤_, _<_};
+ghost use lib.ListN.{length};
+ghost use Rattle.rules.specs.Word.{zeros, check, sound, blank, condition, low16, low24, checked, wear-word, number-word, opening-word, done-word, record-word};
+ghost use Rattle.words.specs.Read.{as-word, as-condition, word-in};
+
+pub struct Word {
+    pub a: u8,
+    pub b: u8,
+    pub c: u8,
+    pub d: u8,
+}
+
+pub enum Condition {
+    Sound,
+    Blank,
+    Spoiled,
+}
+
+// The number of 0 bits of a byte; the bound lets every caller's sum close by itself.
+pub fn zeros(b: u8) -> u8
+    ensures { λ r. ⌜ r ≡ zeros 8 b ⌝ }
+    ensures { λ r. ⌜ r ≤ 8 ⌝ }
+{
+    8 - (u8::count_ones(b) as u8)
+}
+
+// Berger's check of three bytes.
+pub fn check(a: u8, b: u8, c: u8) -> u8
+    ensures { λ r. ⌜ r ≡ check a b c ⌝ }
+    ensures { λ r. ⌜ r ≤ 24 ⌝ }
+{
+    zeros(a) + zeros(b) + zeros(c)
+}
+
+pub fn is_sound(w: Word) -> bool
+    ensures { λ r. ⌜ r ≡ sound (as-word w) ⌝ }
+{
+    w.d == check(w.a, w.b, w.c)
+}
+
+pub fn is_blank(w: Word) -> bool
+    ensures { λ r. ⌜ r ≡ blank (as-word w) ⌝ }
+{
+    if w.a != 255 {
+        return false;
+    }
+    if w.b != 255 {
+        return false;
+    }
+    if w.c != 255 {
+        return false;
+    }
+    w.d == 255
+}
+
+// A blank word is never sound, so the order of the two tests is of no matter.
+pub fn condition_of(w: Word) -> Condition
+    ensures { λ r. ⌜ as-condition r ≡ condition (as-word w) ⌝ }
+{
+    if is_sound(w) {
+        return Condition::Sound;
+    }
+    if is_blank(w) {
+        return Condition::Blank;
+    }
+    Condition::Spoiled
+}
+
+// The word that begins at an offset of the bytes.
+pub fn word_at(s: &[u8], at: usize) -> Word
+    requires { ⌜ at + 4 ≤ length (now s) ⌝ }
+    ensures { λ r. ⌜ as-word r ≡ word-in (now (s .entry)) at ⌝ }
+{
+    Word {
+        a: s[at],
+        b: s[at + 1],
+        c: s[at + 2],
+        d: s[at + 3],
+    }
+}
+
+pub fn condition_at(s: &[u8], at: usize) -> Condition
+    requires { ⌜ at + 4 ≤ length (now s) ⌝ }
+    ensures { λ r. ⌜ as-condition r ≡ condition (word-in (now (s .entry)) at) ⌝ }
+{
+    condition_of(word_at(s, at))
+}
+
+// The sound word of three bytes: every maker below goes through it.
+pub fn checked(a: u8, b: u8, c: u8) -> Word
+    ensures { λ r. ⌜ as-word r ≡ checked a b c ⌝ }
+{
+    Word {
+        a,
+        b,
+        c,
+        d: check(a, b, c),
+    }
+}
+
+pub fn record_word(address: u16, value: u8) -> Word
+    ensures { λ r. ⌜ as-word r ≡ record-word address value ⌝ }
+{
+    checked((address % 256) as u8, (address / 256) as u8, value)
+}
+
+pub fn wear_word(mark: u8, wear: u16) -> Word
+    ensures { λ r. ⌜ as-word r ≡ wear-word mark wear ⌝ }
+{
+    checked((wear % 256) as u8, (wear / 256) as u8, mark)
+}
+
+pub fn number_word(n: u32) -> Word
+    requires { ⌜ n < 16777216 ⌝ }
+    ensures { λ r. ⌜ as-word r ≡ number-word n ⌝ }
+{
+    checked((n % 256) as u8, (n / 256 % 256) as u8, (n / 65536) as u8)
+}
+
+pub fn opening_word(kind: u8, order: u32) -> Word
+    requires { ⌜ (kind < 4) × (order < 4194304) ⌝ }
+    ensures { λ r. ⌜ as-word r ≡ opening-word kind order ⌝ }
+{
+    number_word(order * 4 + kind as u32)
+}
+
+pub fn done_word(order: u32) -> Word
+    requires { ⌜ order < 4194304 ⌝ }
+    ensures { λ r. ⌜ as-word r ≡ done-word order ⌝ }
+{
+    number_word(order * 4 + 3)
+}
+
+pub fn low16(w: Word) -> u16
+    ensures { λ r. ⌜ r ≡ low16 (as-word w) ⌝ }
+{
+    w.a as u16 + 256 * (w.b as u16)
+}
+
+pub fn low24(w: Word) -> u32
+    ensures { λ r. ⌜ r ≡ low24 (as-word w) ⌝ }
+{
+    w.a as u32 + 256 * (w.b as u32) + 65536 * (w.c as u32)
+}
