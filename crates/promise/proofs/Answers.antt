@@ -14,7 +14,7 @@ use Rattle.rules.specs.Steps.{unclean, is-value}
 use Rattle.rules.specs.Call.{page-size, page-mark, page-count, pages, cut, wrong-size, no-store, repeats, all-used, damaged, is-unclean, wrong-address, is-held, no-room, order-end, then, store-number, write-number, blank-read-number, read-number, Reading, accepted, or-value, read, OK, UNCLEAN, ADDRESS, NO-ROOM, ORDER-END, NOT-HELD, held-limit}
 use Rattle.rules.proofs.Truth.{by-cases, is-false, not-both}
 use Rattle.rules.proofs.Stores.{orders-used, count-used, count-all}
-use Rattle.promise.proofs.Phases.{Pages}
+use Rattle.rules.proofs.Phases.{Pages}
 use Rattle.promise.proofs.Keeps.{told, Keeps}
 use Rattle.promise.proofs.Good.{Good, journal-is}
 use Rattle.promise.proofs.Write.{Accepted}

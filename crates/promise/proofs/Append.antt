@@ -13,7 +13,7 @@ use Rattle.rules.proofs.Words.{Light, sound-light, record-sound, blank-not-soun
 use Rattle.rules.proofs.Pages.{AllLight, open-by-header}
 use Rattle.rules.proofs.Slots.{records-append, no-record, blank-records, made-record}
 use Rattle.rules.proofs.Stores.{Below, orders, orders-append, base-amid, used-amid, used-open, journal-amid}
-use Rattle.promise.proofs.Phases.{Pages, Turns, Partial, word-turns}
+use Rattle.rules.proofs.Phases.{Pages, Turns, Partial, word-turns}
 use Rattle.promise.proofs.Keeps.{Whole, AllWhole, told, Keeps, whole-amid, amid-whole, told-amid, same-count}
 
 -- a page that is used and newer than every other used one

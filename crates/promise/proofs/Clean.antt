@@ -10,7 +10,7 @@ use Rattle.rules.specs.Store.{states, base, used, is-cleared, Setting, count}
 use Rattle.rules.specs.Steps.{unclean, renewed-wear, recovery-steps}
 use Rattle.rules.proofs.Truth.{by-cases, or-second}
 use Rattle.rules.proofs.Pages.{fresh-cleared}
-use Rattle.promise.proofs.Phases.{Pages, store-run, through-end}
+use Rattle.rules.proofs.Phases.{Pages, store-run, through-end}
 use Rattle.promise.proofs.Keeps.{told, Keeps}
 use Rattle.promise.proofs.Renewals.{fresh, renewed, renewals-run, renewals-through}
 use Rattle.promise.proofs.Good.{Good, idle-unclean}

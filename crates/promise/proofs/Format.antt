@@ -16,7 +16,7 @@ use Rattle.rules.proofs.Words.{Light, wear-sound, opening-sound, sound-light}
 use Rattle.rules.proofs.Pages.{AllLight, replicate-light, replicate-all-blank, fresh-cleared, wear-is-wear, opened-plain}
 use Rattle.rules.proofs.Slots.{blank-records}
 use Rattle.rules.proofs.Stores.{orders, NoneUsed, none-used-pages}
-use Rattle.promise.proofs.Phases.{Pages, Through, Fits, end, step, store-run, store-run-append, through-append, here-fits, word-through, word-run}
+use Rattle.rules.proofs.Phases.{Pages, Through, Fits, end, step, store-run, store-run-append, through-append, here-fits, word-through, word-run}
 use Rattle.promise.proofs.Keeps.{AllWhole, told, Keeps}
 use Rattle.promise.proofs.Renewals.{fresh, erased, renew-run, next-length}
 use Rattle.promise.proofs.Good.{Good}

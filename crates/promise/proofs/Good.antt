@@ -20,7 +20,7 @@ use Rattle.rules.proofs.Slots.{FreeAt, free-at, Lawful, put-all-lawful, but-law
 use Rattle.rules.proofs.Settings.{append-few, copies-few, copies-length, copies-last}
 use Rattle.rules.proofs.Pages.{cleared-is, replicate-all-blank}
 use Rattle.rules.proofs.Stores.{orders, orders-used, greatest-among, greatest-upto, UpTo, Under, upto-under, ActiveAt, active-at, taken-at, slots-amid, repeats-insert, count-all, count-used}
-use Rattle.promise.proofs.Phases.{Pages, Through, Turns, end, step, turn, wait, store-run, word-run, turns-after, turns-through}
+use Rattle.rules.proofs.Phases.{Pages, Through, Turns, end, step, turn, wait, store-run, word-run, turns-after, turns-through}
 use Rattle.promise.proofs.Keeps.{Whole, AllWhole, told, Keeps, whole-amid, Parted, parted, Headed, headed}
 use Rattle.promise.proofs.Renewals.{Idle, renewals-through}
 use Rattle.promise.proofs.Append.{Newest, append-turns}

@@ -9,41 +9,20 @@ use Rattle.rules.specs.Call.{cut}
 use Rattle.rules.proofs.Shape.{Within, store-after, StoreFails}
 use Rattle.rules.proofs.Cut.{cut-length, cut-page-length, cut-after, length-after, cut-fails, length-fails}
 use Rattle.promise.specs.Promise.{Left, between, failing, later}
-use Rattle.promise.proofs.Phases.{Pages, Fits, Through, Turns, StoreLeft, store-run, end, step, turns-through}
+use Rattle.rules.proofs.Plans.{paged, Sized, fits-within}
+use Rattle.rules.proofs.Phases.{Pages, Fits, Through, Turns, StoreLeft, store-run, end, step, turns-through}
 use Rattle.promise.proofs.Good.{turns-map}
 
 module _ (k n : ℕ) where
-  abbrev pub paged : List ℕ → Pages
-  paged i = cut (4 * k) n i
-
-  fits-within : (s : Step) (i : List ℕ) → length i ≡ n * (4 * k) → Fits s (paged i) → Within n k s
-  unfolding Fits Within
-  fits-within (program p w h low high) i l f =
-      let p-in : p < n = subst (λ (x : ℕ). p < x) (cut-length (4 * k) n i) (f .0) in
-      (p-in, subst (λ (x : ℕ). w < x) (cut-page-length k n p i p-in l) (f .1))
-  fits-within (erase p) i l f = subst (λ (x : ℕ). p < x) (cut-length (4 * k) n i) f
-
-  -- an image of n pages
-  abbrev pub Sized : List ℕ → Type 0
-  Sized i = length i ≡ n * (4 * k)
-
   module _ {P : Pages → Type 0} where
-    pub left-pages : {c : ℕ} {ss : List Step} {i j : List ℕ} → Through k P ss (paged i) → Sized i → Left (4 * k) c ss i j → StoreLeft k c ss (paged i) (paged j) × Sized j
+    pub left-pages : {c : ℕ} {ss : List Step} {i j : List ℕ} → Through k P ss (paged k n i) → Sized k n i → Left (4 * k) c ss i j → StoreLeft k c ss (paged k n i) (paged k n j) × Sized k n j
     left-pages t l between = (StoreLeft.between, l)
     left-pages {i = i} {j = j} (step {s = s} c p f t) l (failing x) =
-        (StoreLeft.failing (cut-fails k n s i j l (fits-within s i l c) x), length-fails x ∙ l)
+        (StoreLeft.failing (cut-fails k n s i j l (fits-within k n s i l c) x), length-fails x ∙ l)
     left-pages {i = i} {j = j} (step {s = s} {ss = ss} c p f t) l (later {n = d} x) =
-        let e = cut-after k n s i l (fits-within s i l c) in
+        let e = cut-after k n s i l (fits-within k n s i l c) in
         let y = left-pages (subst (Through k P ss) (sym e) t) (length-after (4 * k) s i ∙ l) x in
-        (StoreLeft.later (subst (λ (F : Pages). StoreLeft k d ss F (paged j)) e (y .0)), y .1)
-
-    pub run-pages : (ss : List Step) (i : List ℕ) → Through k P ss (paged i) → Sized i → (paged (run (4 * k) ss i) ≡ store-run k ss (paged i)) × Sized (run (4 * k) ss i)
-    unfolding run store-run
-    run-pages [] i (end p) l = (refl, l)
-    run-pages (s ∷ ss) i (step c p f t) l =
-        let e = cut-after k n s i l (fits-within s i l c) in
-        let y = run-pages ss (after (4 * k) s i) (subst (Through k P ss) (sym e) t) (length-after (4 * k) s i ∙ l) in
-        (y .0 ∙ ap (store-run k ss) e, y .1)
+        (StoreLeft.later (subst (λ (F : Pages). StoreLeft k d ss F (paged k n j)) e (y .0)), y .1)
 
   -- a turn is one or the other all through
   pub turns-either : {Old New : Pages → Type 0} {ss : List Step} {F : Pages} → Turns k Old New ss F → Through k (λ F. Old F ⊎ New F) ss F

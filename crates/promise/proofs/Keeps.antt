@@ -11,7 +11,7 @@ use Rattle.rules.specs.Page.{State, Page, page, state, slots, wear-in}
 use Rattle.rules.specs.Store.{states, base, used, is-open, used-pages, oldest-first, Setting, all-records}
 use Rattle.rules.proofs.Pages.{AllLight, Fades}
 use Rattle.rules.proofs.Stores.{orders, fade-base, fade-pages}
-use Rattle.promise.proofs.Phases.{Pages}
+use Rattle.rules.proofs.Phases.{Pages}
 
 -- a page of k words, all light
 abbrev pub Whole : ℕ → List Word → Type 0

@@ -20,11 +20,12 @@ use Rattle.rules.proofs.Truth.{by-cases, not-both, or-false-left, or-false-righ
 use Rattle.rules.proofs.Cut.{cut-length}
 use Rattle.rules.proofs.Settings.{last-of-here, last-of-other}
 use Rattle.promise.specs.Promise.{Left, between, failing, later, InUse, formatted, recovered, written, Recoveries, none as no-more, more, Cut, Promise, Recovers, Found, finds, recovery-of, write-of, nothing-is-lost, recovery-mends, what-is-written-is-found}
-use Rattle.promise.proofs.Phases.{Pages, Through, Turns, StoreLeft, through-left, through-end, turns-left, turns-later, turns-end, store-run}
+use Rattle.rules.proofs.Phases.{Pages, Through, Turns, StoreLeft, through-left, through-end, turns-left, turns-later, turns-end, store-run}
 use Rattle.promise.proofs.Keeps.{told}
 use Rattle.promise.proofs.Good.{Good, recovery-through}
 use Rattle.promise.proofs.Write.{Has, old-values, new-values, write-turns}
-use Rattle.promise.proofs.Images.{left-pages, run-pages, turns-either}
+use Rattle.rules.proofs.Plans.{run-pages}
+use Rattle.promise.proofs.Images.{left-pages, turns-either}
 use Rattle.promise.proofs.Answers.{Kept-well, pages-are, store-ok, read-is, answer, new-answer, accepted-here, address-right, value-here}
 use Rattle.promise.proofs.Format.{formatted as formatted-store, format-good, format-run, format-through}
 use Rattle.promise.proofs.Clean.{recovered-clean}

@@ -1,5 +1,4 @@
 -- The promise, proved: the phases that a store goes through, the invariant that it keeps, each kind of write, and the theorems.
-pub mod Phases
 pub mod Keeps
 pub mod Renewals
 pub mod Append

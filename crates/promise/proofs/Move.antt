@@ -20,7 +20,7 @@ use Rattle.rules.proofs.Words.{Light, sound-light, opening-sound, record-sound,
 use Rattle.rules.proofs.Pages.{AllLight, replicate-light, replicate-all-blank, unopened-not-open, undone-not-open, opened-received, opening-not-plain}
 use Rattle.rules.proofs.Slots.{blank-records, records-append, Lawful, written, written-records}
 use Rattle.rules.proofs.Stores.{Under, orders, base-amid, used-amid, NoneUsed, none-used, none-used-pages, under-append}
-use Rattle.promise.proofs.Phases.{Pages, Turns, Through, end, Partial, word-turns, word-run, word-through, turns-through, through-append, through-end, turns-after, turns-before, store-run, store-run-append}
+use Rattle.rules.proofs.Phases.{Pages, Turns, Through, end, Partial, word-turns, word-run, word-through, turns-through, through-append, through-end, turns-after, turns-before, store-run, store-run-append}
 use Rattle.promise.proofs.Keeps.{Whole, AllWhole, told, Keeps, whole-amid, amid-whole, told-amid, same-count}
 use Rattle.promise.proofs.Renewals.{Idle, renewals-through}
 use Rattle.promise.proofs.Append.{whole-word}

@@ -15,7 +15,7 @@ use Rattle.rules.proofs.Words.{Light, sound-light, opening-sound, record-sound,
 use Rattle.rules.proofs.Pages.{AllLight, Fades, replicate-light, replicate-all-blank, fresh-not-open, unopened-not-open, undone-not-open, opened-plain, opened-received, opening-not-plain}
 use Rattle.rules.proofs.Slots.{blank-records}
 use Rattle.rules.proofs.Stores.{Below, Under, orders, orders-append, base-amid, used-amid, unused-amid, closed-not-used, closed-order₂, under-below, under-append, base-under, journal-amid}
-use Rattle.promise.proofs.Phases.{Pages, Turns, Through, Partial, word-turns, word-run, turns-through}
+use Rattle.rules.proofs.Phases.{Pages, Turns, Through, Partial, word-turns, word-run, turns-through}
 use Rattle.promise.proofs.Keeps.{Whole, AllWhole, told, Keeps, whole-amid, amid-whole, told-amid, same-count, keeps-fade}
 use Rattle.promise.proofs.Append.{Newest, others, whole-word}
 

@@ -16,7 +16,7 @@ use Rattle.rules.proofs.Truth.{by-cases}
 use Rattle.rules.proofs.Words.{Light, wear-sound}
 use Rattle.rules.proofs.Shape.{target, page-after, WordsRise, PageFails, erasing, store-after, StoreFails}
 use Rattle.rules.proofs.Pages.{AllLight, replicate-light, rise-light, rise-length, rise-fades, fresh-not-open}
-use Rattle.promise.proofs.Phases.{Pages, Through, end, step, store-run, store-run-append, through-end, through-append, after-amid, fails-amid, word-through, word-run, Fits, here-fits}
+use Rattle.rules.proofs.Phases.{Pages, Through, end, step, store-run, store-run-append, through-end, through-append, after-amid, fails-amid, word-through, word-run, Fits, here-fits}
 use Rattle.promise.proofs.Keeps.{Whole, AllWhole, Keeps, whole-amid, keeps-fade}
 
 erase-fails : {p : ℕ} {pg qg : List Word} → PageFails (erase p) pg qg → WordsRise pg qg

@@ -19,7 +19,7 @@ use Rattle.rules.proofs.Truth.{by-cases}
 use Rattle.rules.proofs.Slots.{Lawful, put-all-lawful, but-lawful, lawful-append}
 use Rattle.rules.proofs.Settings.{copies-few, copies-length, copies-last}
 use Rattle.rules.proofs.Stores.{Under}
-use Rattle.promise.proofs.Phases.{Pages, Turns}
+use Rattle.rules.proofs.Phases.{Pages, Turns}
 use Rattle.promise.proofs.Keeps.{told, Keeps}
 use Rattle.promise.proofs.Open.{taken-page}
 use Rattle.promise.proofs.Move.{move-turns}

@@ -4,6 +4,8 @@ pub mod Bits
 pub mod Words
 pub mod Shape
 pub mod Cut
+pub mod Phases
+pub mod Plans
 pub mod Pages
 pub mod Settings
 pub mod Slots

@@ -34,9 +34,14 @@ pub data StoreLeft (k : ℕ) : ℕ → List Step → Pages → Pages → Type 0 
   failing : {s : Step} {ss : List Step} {F G : Pages} → StoreFails s F G → StoreLeft k 0 (s ∷ ss) F G
   later : {n : ℕ} {s : Step} {ss : List Step} {F G : Pages} → StoreLeft k n ss (store-after k s F) G → StoreLeft k (suc n) (s ∷ ss) F G
 
--- a step works within the pages that there are
+-- a half of a word that reads 65,535
+unfoldable pub BlankHalf : Half → Word → Type 0
+BlankHalf first (word a b c d) = (a ≡ 255) × (b ≡ 255)
+BlankHalf second (word a b c d) = (c ≡ 255) × (d ≡ 255)
+
+-- a step may be done: it works within the pages that there are, and a half-word that is programmed reads 65,535
 unfoldable pub Fits : Step → Pages → Type 0
-Fits (program p w h low high) F = (p < length F) × (w < length (getD F p []))
+Fits (program p w h low high) F = (p < length F) × (w < length (getD F p [])) × BlankHalf h (getD (getD F p []) w blank-word)
 Fits (erase p) F = p < length F
 
 module _ (k : ℕ) where
@@ -149,11 +154,11 @@ module _ (k : ℕ) (f r : Pages) (xs ys : List Word) where
   abbrev pub placed : Word → Pages
   placed v = f ++ (xs ++ v ∷ ys) ∷ r
 
-  place-fits : (h : Half) (low high : ℕ) (v : Word) → Fits (program (length f) (length xs) h low high) (placed v)
+  place-fits : (h : Half) (low high : ℕ) (v : Word) → BlankHalf h v → Fits (program (length f) (length xs) h low high) (placed v)
   unfolding Fits
-  place-fits h low high v =
+  place-fits h low high v b =
       let e = length-append xs (v ∷ ys) in
-      (here-fits k f (xs ++ v ∷ ys) r, rw (getD-append-seam f (xs ++ v ∷ ys) r []) (omega arith))
+      (here-fits k f (xs ++ v ∷ ys) r, rw (getD-append-seam f (xs ++ v ∷ ys) r []) (omega arith), rw (getD-append-seam f (xs ++ v ∷ ys) r [], getD-append-seam xs v ys blank-word) b)
 
   first-after : (a b : ℕ) → store-after k (program (length f) (length xs) first a b) (placed blank-word) ≡ placed (word a b 255 255)
   unfolding target page-after with-half
@@ -188,18 +193,18 @@ module _ (k : ℕ) (f r : Pages) (xs ys : List Word) where
       )
 
   pub word-turns : (Old New : Pages → Type 0) (w : Word) → sound w ≡ true → ((v : Word) → Partial v → Old (placed v)) → New (placed w) → Turns k Old New (word-steps (length f) (length xs) w) (placed blank-word)
-  unfolding word-steps
+  unfolding word-steps BlankHalf
   word-turns Old New (word a b c d) s old new =
       let last : Through k New [] (store-after k (program (length f) (length xs) second c d) (placed (word a b 255 255))) = rw (second-after a b c d) (end new) in
       let next : Turns k Old New (program (length f) (length xs) second c d ∷ []) (store-after k (program (length f) (length xs) first a b) (placed blank-word)) =
       rw (first-after a b)
-      (turn (place-fits second c d (word a b 255 255)) (old (word a b 255 255) (half-partial a b))
+      (turn (place-fits second c d (word a b 255 255) (refl, refl)) (old (word a b 255 255) (half-partial a b))
       (λ G x.
       let y = second-fails a b c d G s x in
       ⊎-elim (λ (p : Partial (y .0)). inl (rw (y .2) (old (y .0) p)))
       (λ (e : y .0 ≡ word a b c d). inr (subst New (sym (y .2 ∙ ap placed e)) new)) (y .1))
       last) in
-      wait (place-fits first a b blank-word) (old blank-word blank-partial) (λ G x. let y = first-fails a b G x in rw (y .2) (old (y .0) (y .1))) next
+      wait (place-fits first a b blank-word (refl, refl)) (old blank-word blank-partial) (λ G x. let y = first-fails a b G x in rw (y .2) (old (y .0) (y .1))) next
 
   -- what holds of every word on the way holds all through
   pub word-through : (P : Pages → Type 0) (w : Word) → sound w ≡ true → ((v : Word) → Light v → P (placed v)) → Through k P (word-steps (length f) (length xs) w) (placed blank-word)

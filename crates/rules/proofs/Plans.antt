@@ -1,0 +1,147 @@
+-- Lists of steps, cut at an allowance: what they leave, and that each may be done. Assumes nothing.
+use Prim.Native.Nat.{ℕ, zero, suc, _+_, _-_, _*_, _≤_, _<_}
+use mathlib.Core.Path.{_≡_, refl, sym, ap, ap₂, _∙_, subst}
+use mathlib.Core.List.{List, [], _∷_, _++_}
+use native.Mathlib.Numerals.{add-one}
+use native.Mathlib.Omega.{arith}
+use lib.ListN.{length, getD, take, drop, length-drop, length-take}
+use lib.Seq.{getD-take, getD-drop, drop-cons, take-nil}
+use Rattle.rules.specs.Flash.{Half, first, second, Step, program, erase, half-offset, offset, bytes-at, Allowed, after, run}
+use Rattle.rules.specs.Word.{Word, word, words}
+use Rattle.rules.specs.Page.{blank-word}
+use Rattle.rules.specs.Call.{cut}
+use Rattle.rules.proofs.Shape.{Within, store-after}
+use Rattle.rules.proofs.Cut.{cut-length, cut-page, cut-page-length, cut-after, length-after, page-within, page-bytes-length, words-at}
+use Rattle.rules.proofs.Phases.{Pages, BlankHalf, Fits, Through, end, step, store-run}
+
+-- ---- runs
+
+pub run-append : (size : ℕ) (xs ys : List Step) (i : List ℕ) → run size (xs ++ ys) i ≡ run size ys (run size xs i)
+unfolding run
+run-append size [] ys i = refl
+run-append size (s ∷ xs) ys i = run-append size xs ys (after size s i)
+
+pub run-length : (size : ℕ) (ss : List Step) (i : List ℕ) → length (run size ss i) ≡ length i
+unfolding run
+run-length size [] i = refl
+run-length size (s ∷ ss) i = run-length size ss (after size s i) ∙ length-after size s i
+
+-- what is left of an allowance after one list is what the next may take
+pub take-append : {A : Type 0} (n : ℕ) (xs ys : List A) → take n (xs ++ ys) ≡ take n xs ++ take (n - length xs) ys
+take-append n [] ys = let e : n ≡ n - 0 = omega arith in rw (take-nil n) (ap (λ (m : ℕ). take m ys) e)
+take-append zero (x ∷ xs) ys = let e : 0 ≡ 0 - suc (length xs) = omega arith in ap (λ (m : ℕ). take m ys) e
+take-append (suc n) (x ∷ xs) ys =
+    let e : n - length xs ≡ suc n - suc (length xs) = omega arith in
+    ap (λ (zs : List _). x ∷ zs) (take-append n xs ys ∙ ap (λ (m : ℕ). take n xs ++ take m ys) e)
+
+pub cut-run : (size n : ℕ) (xs ys : List Step) (i : List ℕ) → run size (take n (xs ++ ys)) i ≡ run size (take (n - length xs) ys) (run size (take n xs) i)
+cut-run size n xs ys i = ap (λ (ss : List Step). run size ss i) (take-append n xs ys) ∙ run-append size (take n xs) (take (n - length xs) ys) i
+
+-- ---- steps that may be done
+
+-- each step may be done when its turn comes
+unfoldable pub AllAllowed : (size : ℕ) → List Step → List ℕ → Type 0
+AllAllowed size [] i = Unit {0}
+AllAllowed size (s ∷ ss) i = Allowed size s i × AllAllowed size ss (after size s i)
+
+pub allowed-split : (size : ℕ) (xs ys : List Step) (i : List ℕ) → AllAllowed size (xs ++ ys) i → AllAllowed size xs i × AllAllowed size ys (run size xs i)
+unfolding AllAllowed run
+allowed-split size [] ys i h = (tt, h)
+allowed-split size (s ∷ xs) ys i h = let t = allowed-split size xs ys (after size s i) (h .1) in ((h .0, t .0), t .1)
+
+pub allowed-join : (size : ℕ) (xs ys : List Step) (i : List ℕ) → AllAllowed size xs i → AllAllowed size ys (run size xs i) → AllAllowed size (xs ++ ys) i
+unfolding AllAllowed run
+allowed-join size [] ys i p q = q
+allowed-join size (s ∷ xs) ys i p q = (p .0, allowed-join size xs ys (after size s i) (p .1) q)
+
+pub allowed-take : (size n : ℕ) (ss : List Step) (i : List ℕ) → AllAllowed size ss i → AllAllowed size (take n ss) i
+unfolding AllAllowed
+allowed-take size zero ss i h = tt
+allowed-take size (suc n) [] i h = tt
+allowed-take size (suc n) (s ∷ ss) i h = (h .0, allowed-take size n ss (after size s i) (h .1))
+
+-- of two lists under one allowance
+pub allowed-cut : (size n : ℕ) (xs ys : List Step) (i : List ℕ) → AllAllowed size (take n (xs ++ ys)) i → AllAllowed size (take n xs) i × AllAllowed size (take (n - length xs) ys) (run size (take n xs) i)
+allowed-cut size n xs ys i h = allowed-split size (take n xs) (take (n - length xs) ys) i (rw take-append at h)
+
+-- ---- from pages to bytes
+
+two-bytes : (o : ℕ) (i : List ℕ) → o + 2 ≤ length i → take 2 (drop o i) ≡ getD i o 0 ∷ getD i (o + 1) 0 ∷ []
+two-bytes o i l =
+    let e : drop o i ≡ getD i o 0 ∷ drop (suc o) i = drop-cons i o 0 (omega arith) in
+    let f : drop (suc o) i ≡ getD i (suc o) 0 ∷ drop (suc (suc o)) i = drop-cons i (suc o) 0 (omega arith) in
+    rw (e, f, add-one)
+
+same-word : {a b c d a′ b′ c′ d′ : ℕ} → a ≡ a′ → b ≡ b′ → c ≡ c′ → d ≡ d′ → word a b c d ≡ word a′ b′ c′ d′
+same-word p q r s = cc
+
+module _ (k n : ℕ) where
+  -- the image of n pages of k words, as words
+  abbrev pub paged : List ℕ → Pages
+  paged i = cut (4 * k) n i
+
+  abbrev pub Sized : List ℕ → Type 0
+  Sized i = length i ≡ n * (4 * k)
+
+  pub fits-within : (s : Step) (i : List ℕ) → Sized i → Fits s (paged i) → Within n k s
+  unfolding Fits Within
+  fits-within (program p w h low high) i l f =
+      let p-in : p < n = subst (λ (x : ℕ). p < x) (cut-length (4 * k) n i) (f .0) in
+      (p-in, subst (λ (x : ℕ). w < x) (cut-page-length k n p i p-in l) (f .1))
+  fits-within (erase p) i l f = subst (λ (x : ℕ). p < x) (cut-length (4 * k) n i) f
+
+  -- the word at a place of a page, byte by byte
+  page-word : (p w : ℕ) (i : List ℕ) → Sized i → p < n → w < k → let o = p * (4 * k) + 4 * w in
+      getD (getD (paged i) p []) w blank-word ≡ word (getD i o 0) (getD i (o + 1) 0) (getD i (o + 2) 0) (getD i (o + 3) 0)
+  unfolding bytes-at
+  page-word p w i l p-in w-in =
+      let B = bytes-at (p * (4 * k)) (4 * k) i in
+      let long : length B ≡ 4 * k = page-bytes-length k n p i l p-in in
+      let byte : (j : ℕ) → j < 4 * k → getD B j 0 ≡ getD i (p * (4 * k) + j) 0 = λ j h. getD-take (4 * k) (drop (p * (4 * k)) i) j 0 h ∙ getD-drop (p * (4 * k)) i j 0 in
+      let c : (j m : ℕ) → p * (4 * k) + (4 * w + j) ≡ m → 4 * w + j < 4 * k → getD B (4 * w + j) 0 ≡ getD i m 0 = λ j m e h. byte (4 * w + j) h ∙ ap (λ (x : ℕ). getD i x 0) e in
+      let e₀ : getD B (4 * w) 0 ≡ getD i (p * (4 * k) + 4 * w) 0 = byte (4 * w) (omega arith) in
+      let e₁ : getD B (4 * w + 1) 0 ≡ getD i (p * (4 * k) + 4 * w + 1) 0 = c 1 (p * (4 * k) + 4 * w + 1) (omega arith) (omega arith) in
+      let e₂ : getD B (4 * w + 2) 0 ≡ getD i (p * (4 * k) + 4 * w + 2) 0 = c 2 (p * (4 * k) + 4 * w + 2) (omega arith) (omega arith) in
+      let e₃ : getD B (4 * w + 3) 0 ≡ getD i (p * (4 * k) + 4 * w + 3) 0 = c 3 (p * (4 * k) + 4 * w + 3) (omega arith) (omega arith) in
+      ap (λ (pg : List Word). getD pg w blank-word) (cut-page (4 * k) n p i p-in) ∙ words-at w B (omega arith) ∙ same-word e₀ e₁ e₂ e₃
+
+  -- the half-word of a step reads 65,535 if the half of its word does
+  blank-bytes : (p w : ℕ) (h : Half) (i : List ℕ) → Sized i → p < n → w < k → BlankHalf h (getD (getD (paged i) p []) w blank-word) → take 2 (drop (p * (4 * k) + 4 * w + half-offset h) i) ≡ 255 ∷ 255 ∷ []
+  unfolding BlankHalf
+  blank-bytes p w first i l p-in w-in b =
+      let o = p * (4 * k) + 4 * w in
+      let b′ = subst (BlankHalf first) (page-word p w i l p-in w-in) b in
+      let in-page = page-within (4 * k) n p p-in in
+      let e : o + 0 ≡ o = omega arith in
+      ap (λ (x : ℕ). take 2 (drop x i)) e ∙ two-bytes o i (omega arith) ∙ ap₂ (λ (x y : ℕ). x ∷ y ∷ []) (b′ .0) (b′ .1)
+  blank-bytes p w second i l p-in w-in b =
+      let o = p * (4 * k) + 4 * w in
+      let b′ = subst (BlankHalf second) (page-word p w i l p-in w-in) b in
+      let in-page = page-within (4 * k) n p p-in in
+      let e : o + 2 + 1 ≡ o + 3 = omega arith in
+      two-bytes (o + 2) i (omega arith) ∙ ap₂ (λ (x y : ℕ). x ∷ y ∷ []) (b′ .0) (ap (λ (x : ℕ). getD i x 0) e ∙ b′ .1)
+
+  pub fits-allowed : (s : Step) (i : List ℕ) → Sized i → Fits s (paged i) → Allowed (4 * k) s i
+  unfolding Fits Allowed bytes-at offset Within
+  fits-allowed (program p w h low high) i l f =
+      let t = fits-within (program p w h low high) i l f in blank-bytes p w h i l (t .0) (t .1) (f .2)
+  fits-allowed (erase p) i l f =
+      let h = page-within (4 * k) n p (fits-within (erase p) i l f) in
+      omega arith
+
+  module _ {P : Pages → Type 0} where
+    -- what holds through the steps on pages holds of the image
+    pub run-pages : (ss : List Step) (i : List ℕ) → Through k P ss (paged i) → Sized i → (paged (run (4 * k) ss i) ≡ store-run k ss (paged i)) × Sized (run (4 * k) ss i)
+    unfolding run store-run
+    run-pages [] i (end p) l = (refl, l)
+    run-pages (s ∷ ss) i (step c p f t) l =
+        let e = cut-after k n s i l (fits-within s i l c) in
+        let y = run-pages ss (after (4 * k) s i) (subst (Through k P ss) (sym e) t) (length-after (4 * k) s i ∙ l) in
+        (y .0 ∙ ap (store-run k ss) e, y .1)
+
+    pub through-allowed : (ss : List Step) (i : List ℕ) → Through k P ss (paged i) → Sized i → AllAllowed (4 * k) ss i
+    unfolding AllAllowed
+    through-allowed [] i t l = tt
+    through-allowed (s ∷ ss) i (step c p f t) l =
+        let e = cut-after k n s i l (fits-within s i l c) in
+        (fits-allowed s i l c, through-allowed ss (after (4 * k) s i) (subst (Through k P ss) (sym e) t) (length-after (4 * k) s i ∙ l))
