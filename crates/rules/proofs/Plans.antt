@@ -4,14 +4,14 @@ use mathlib.Core.Path.{_≡_, refl, sym, ap, ap₂, _∙_, subst}
 use mathlib.Core.List.{List, [], _∷_, _++_}
 use native.Mathlib.Numerals.{add-one}
 use native.Mathlib.Omega.{arith}
-use lib.ListN.{length, getD, take, drop, length-drop, length-take}
-use lib.Seq.{getD-take, getD-drop, drop-cons, take-nil}
-use Rattle.rules.specs.Flash.{Half, first, second, Step, program, erase, half-offset, offset, bytes-at, Allowed, after, run}
-use Rattle.rules.specs.Word.{Word, word, words}
+use lib.ListN.{length, getD, take, drop, replicate, length-drop, length-replicate, getD-replicate, List·getD-append}
+use lib.Seq.{getD-take, getD-drop, drop-cons, take-nil, sets, sets-eq}
+use Rattle.rules.specs.Flash.{Half, first, second, Step, program, erase, half-offset, offset, aim, bytes-at, Allowed, after, run}
+use Rattle.rules.specs.Word.{Word, word, words, word-steps}
 use Rattle.rules.specs.Page.{blank-word}
 use Rattle.rules.specs.Call.{cut}
 use Rattle.rules.proofs.Shape.{Within, store-after}
-use Rattle.rules.proofs.Cut.{cut-length, cut-page, cut-page-length, cut-after, length-after, page-within, page-bytes-length, words-at}
+use Rattle.rules.proofs.Cut.{drop-sets-above, drop-sets-below, cut-length, cut-page, cut-page-length, cut-after, length-after, page-within, page-bytes-length, words-at}
 use Rattle.rules.proofs.Phases.{Pages, BlankHalf, Fits, Through, end, step, store-run}
 
 -- ---- runs
@@ -66,7 +66,7 @@ allowed-cut size n xs ys i h = allowed-split size (take n xs) (take (n - length 
 
 -- ---- from pages to bytes
 
-two-bytes : (o : ℕ) (i : List ℕ) → o + 2 ≤ length i → take 2 (drop o i) ≡ getD i o 0 ∷ getD i (o + 1) 0 ∷ []
+pub two-bytes : (o : ℕ) (i : List ℕ) → o + 2 ≤ length i → take 2 (drop o i) ≡ getD i o 0 ∷ getD i (o + 1) 0 ∷ []
 two-bytes o i l =
     let e : drop o i ≡ getD i o 0 ∷ drop (suc o) i = drop-cons i o 0 (omega arith) in
     let f : drop (suc o) i ≡ getD i (suc o) 0 ∷ drop (suc (suc o)) i = drop-cons i (suc o) 0 (omega arith) in
@@ -145,3 +145,65 @@ module _ (k n : ℕ) where
     through-allowed (s ∷ ss) i (step c p f t) l =
         let e = cut-after k n s i l (fits-within s i l c) in
         (fits-allowed s i l c, through-allowed ss (after (4 * k) s i) (subst (Through k P ss) (sym e) t) (length-after (4 * k) s i ∙ l))
+
+-- ---- an erased page may be programmed anywhere
+
+getD-sets-in : (o x : ℕ) (vs l : List ℕ) → o + length vs ≤ length l → x < length vs → getD (sets l o vs) (o + x) 0 ≡ getD vs x 0
+getD-sets-in o x vs l h g =
+    let e : o + 0 ≡ o = omega arith in
+    let z : 0 + length vs ≤ length (drop o l) = (let d = length-drop o l in omega arith) in
+    sym (getD-drop o (sets l o vs) x 0)
+    ∙ ap (λ (m : ℕ). getD (drop o (sets l m vs)) x 0) (sym e)
+    ∙ ap (λ (m : List ℕ). getD m x 0) (drop-sets-above o l 0 vs ∙ sets-eq vs (drop o l) 0 z)
+    ∙ List·getD-append vs (drop (0 + length vs) (drop o l)) 0 x g
+
+getD-sets-above : (o x : ℕ) (vs l : List ℕ) → o + length vs ≤ x → getD (sets l o vs) x 0 ≡ getD l x 0
+getD-sets-above o x vs l h =
+    let e : x + 0 ≡ x = omega arith in
+    ap (λ (m : ℕ). getD (sets l o vs) m 0) (sym e) ∙ sym (getD-drop x (sets l o vs) 0 0)
+    ∙ ap (λ (m : List ℕ). getD m 0 0) (drop-sets-below x l o vs h) ∙ getD-drop x l 0 0 ∙ ap (λ (m : ℕ). getD l m 0) e
+
+module _ (size p : ℕ) (i : List ℕ) (fits : p * size + size ≤ length i) where
+  -- the first half of a word leaves what lies behind it
+  first-keeps : (k a b x : ℕ) → p * size + 4 * k + 2 ≤ x → getD (after size (program p k first a b) (after size (erase p) i)) x 0 ≡ getD (after size (erase p) i) x 0
+  unfolding after offset aim
+  first-keeps k a b x g = getD-sets-above (p * size + 4 * k + 0) x (a ∷ b ∷ []) (after size (erase p) i) (two-more (p * size + 4 * k) x g)
+    where
+      two-more : (o x : ℕ) → o + 2 ≤ x → o + 0 + 2 ≤ x
+      two-more o x h = omega arith
+
+  erased-byte : (x : ℕ) → x < size → getD (after size (erase p) i) (p * size + x) 0 ≡ 255
+  unfolding after offset aim
+  erased-byte x h =
+      let blanks : List ℕ = replicate size 255 in
+      let l : length blanks ≡ size = length-replicate size 255 in
+      getD-sets-in (p * size) x blanks i (rw l fits) (rw l h) ∙ getD-replicate size x 255 0 h
+
+  erased-at : (x m : ℕ) → p * size + x ≡ m → x < size → getD (after size (erase p) i) m 0 ≡ 255
+  erased-at x m e g = subst (λ (m : ℕ). getD (after size (erase p) i) m 0 ≡ 255) e (erased-byte x g)
+
+  erased-length : length (after size (erase p) i) ≡ length i
+  erased-length = length-after size (erase p) i
+
+  first-blank : (k a b : ℕ) → 4 * k + 4 ≤ size → take 2 (drop (offset size (program p k first a b)) (after size (erase p) i)) ≡ 255 ∷ 255 ∷ []
+  unfolding offset
+  first-blank k a b h =
+      let o = p * size + 4 * k + 0 in
+      let l = erased-length in
+      let e : p * size + (4 * k + 1) ≡ p * size + 4 * k + 0 + 1 = omega arith in
+      two-bytes o (after size (erase p) i) (omega arith)
+      ∙ ap₂ (λ (x y : ℕ). x ∷ y ∷ []) (erased-at (4 * k) o (omega arith) (omega arith)) (erased-at (4 * k + 1) (o + 1) e (omega arith))
+
+  second-blank : (k a b c d : ℕ) → 4 * k + 4 ≤ size → take 2 (drop (offset size (program p k second c d)) (after size (program p k first a b) (after size (erase p) i))) ≡ 255 ∷ 255 ∷ []
+  unfolding offset
+  second-blank k a b c d h =
+      let o = p * size + 4 * k + 2 in
+      let j = after size (program p k first a b) (after size (erase p) i) in
+      let l : length j ≡ length i = length-after size (program p k first a b) (after size (erase p) i) ∙ erased-length in
+      two-bytes o j (omega arith)
+      ∙ ap₂ (λ (x y : ℕ). x ∷ y ∷ []) (first-keeps k a b o (omega arith) ∙ erased-at (4 * k + 2) o (omega arith) (omega arith))
+      (first-keeps k a b (o + 1) (omega arith) ∙ erased-at (4 * k + 3) (o + 1) (omega arith) (omega arith))
+
+  pub erased-allowed : (k : ℕ) (w : Word) → 4 * k + 4 ≤ size → AllAllowed size (word-steps p k w) (after size (erase p) i)
+  unfolding AllAllowed Allowed word-steps bytes-at
+  erased-allowed k (word a b c d) h = (first-blank k a b h, (second-blank k a b c d h, tt))

@@ -1,0 +1,50 @@
+-- A page that is erased and gets its wear word, under an allowance, in the terms of the code. Assumes nothing.
+use Prim.Native.Nat.{ℕ, zero, suc, _+_, _-_, _*_, _≤_, _<_}
+use mathlib.Core.Path.{_≡_, refl, sym, ap, _∙_, subst}
+use mathlib.Core.List.{List, [], _∷_, _++_, append-nil, append-assoc}
+use native.Mathlib.Numerals.{add-one}
+use native.Mathlib.Omega.{arith}
+use lib.ListN.{length, take, replicate}
+use lib.Seq.{sets}
+use Rattle.rules.specs.Flash.{Step, erase, offset, aim, after, run}
+use Rattle.rules.specs.Word.{Word, word, wear-word, word-steps}
+use Rattle.rules.specs.Steps.{renew, renew-all}
+use Rattle.rules.proofs.Plans.{AllAllowed, allowed-take, erased-allowed, run-append}
+
+module _ (mark p wear : ℕ) (i j : List ℕ) (w : Word) (erased : j ≡ sets i (p * 1024) (replicate 1024 255)) (made : w ≡ wear-word mark wear) where
+  is-erased : j ≡ after 1024 (erase p) i
+  unfolding after offset aim
+  is-erased = erased
+
+  pub renewing-allowed : (n : ℕ) → p * 1024 + 1024 ≤ length i → AllAllowed 1024 (take n (word-steps p 0 w)) j
+  renewing-allowed n h =
+      subst (AllAllowed 1024 (take n (word-steps p 0 w))) (sym is-erased) (allowed-take 1024 n (word-steps p 0 w) (after 1024 (erase p) i) (erased-allowed 1024 p i h 0 w (omega arith)))
+
+  pub renewing-done : (left : ℕ) (l : List ℕ) → (left ≡ 0 → ⊥) → l ≡ run 1024 (take (left - 1) (word-steps p 0 w)) j → l ≡ run 1024 (take left (renew mark p wear)) i
+  unfolding run renew
+  renewing-done zero l n h = absurd (n refl)
+  renewing-done (suc left) l n h =
+      let e : suc left - 1 ≡ left = omega arith in
+      h ∙ ap (λ (x : ℕ). run 1024 (take x (word-steps p 0 w)) j) e ∙ ap (run 1024 (take left (word-steps p 0 w))) is-erased
+      ∙ ap (λ (x : Word). run 1024 (take left (word-steps p 0 x)) (after 1024 (erase p) i)) made
+
+-- ---- one page after the other
+
+pub renew-all-next : (mark k n : ℕ) → renew-all mark k (suc n) ≡ renew-all mark k n ++ renew mark (k + n) 1
+unfolding renew-all
+renew-all-next mark k zero = let e : k ≡ k + 0 = omega arith in append-nil (renew mark k 1) ∙ ap (λ (x : ℕ). renew mark x 1) e
+renew-all-next mark k (suc n) =
+    let e : suc k + n ≡ k + suc n = omega arith in
+    ap (λ (ss : List Step). renew mark k 1 ++ ss) (renew-all-next mark (suc k) n ∙ ap (λ (x : ℕ). renew-all mark (suc k) n ++ renew mark x 1) e)
+    ∙ sym (append-assoc (renew mark k 1) (renew-all mark (suc k) n) (renew mark (k + suc n) 1))
+
+pub renew-all-more : (mark n : ℕ) (i j l : List ℕ) → j ≡ run 1024 (renew-all mark 0 n) i → l ≡ run 1024 (take 3 (renew mark n 1)) j → l ≡ run 1024 (renew-all mark 0 (n + 1)) i
+unfolding renew word-steps
+renew-all-more mark n i j l h g =
+    let e : 0 + n ≡ n = omega arith in
+    let s : renew-all mark 0 (n + 1) ≡ renew-all mark 0 n ++ renew mark n 1 = rw add-one (renew-all-next mark 0 n ∙ ap (λ (x : ℕ). renew-all mark 0 n ++ renew mark x 1) e) in
+    g ∙ ap (λ (ss : List Step). run 1024 ss j) (three-steps (wear-word mark 1)) ∙ ap (run 1024 (renew mark n 1)) h
+    ∙ sym (run-append 1024 (renew-all mark 0 n) (renew mark n 1) i) ∙ ap (λ (ss : List Step). run 1024 ss i) (sym s)
+  where
+    three-steps : (w : Word) → take 3 (erase n ∷ word-steps n 0 w) ≡ erase n ∷ word-steps n 0 w
+    three-steps (word a b c d) = refl

@@ -1,0 +1,56 @@
+// Steps under an allowance: each function takes how many steps are left, does no more of its own, and gives how many are
+// left then. The image changes through the two functions of crate flash only, one call for each step.
+ghost use mathlib.Core.Path.{_≡_};
+ghost use Prim.Native.Nat.{_+_, _-_, _*_, _≤_, _<_};
+ghost use lib.ListN.{length, take};
+ghost use Rattle.rules.specs.Flash.{run};
+ghost use Rattle.rules.specs.Word.{word-steps};
+ghost use Rattle.rules.specs.Steps.{renew, renew-all};
+ghost use Rattle.rules.proofs.Plans.{AllAllowed};
+ghost use Rattle.words.specs.Read.{as-word};
+
+use words::Word;
+
+// Programs a word at its place in a page, first half first.
+pub fn program_word(image: &mut [u8], page: usize, place: usize, w: Word, left: u16) -> u16
+    requires { ⌜ (page < 32) × (place < 256) ⌝ }
+    requires { ⌜ AllAllowed 1024 (take left (word-steps page place (as-word w))) (now image) ⌝ }
+    ensures { λ r. ⌜ r ≡ left - 2 ⌝ }
+    ensures { λ r. ⌜ now (image .exit) ≡ run 1024 (take left (word-steps page place (as-word w))) (now (image .entry)) ⌝ }
+{
+    if left == 0 {
+        return 0;
+    }
+    let at = page * 1024 + place * 4;
+    flash::program_at(image, at, w.a, w.b);
+    if left == 1 {
+        return 0;
+    }
+    flash::program_at(image, at + 2, w.c, w.d);
+    left - 2
+}
+
+// Erases a page and programs its wear word.
+pub fn renew(image: &mut [u8], page: usize, mark: u8, wear: u16, left: u16) -> u16
+    requires { ⌜ (page < 32) × (page * 1024 + 1024 ≤ length (now image)) ⌝ }
+    ensures { λ r. ⌜ r ≡ left - 3 ⌝ }
+    ensures { λ r. ⌜ now (image .exit) ≡ run 1024 (take left (renew mark page wear)) (now (image .entry)) ⌝ }
+{
+    if left == 0 {
+        return 0;
+    }
+    flash::erase_at(image, page * 1024, 1024);
+    program_word(image, page, 0, words::wear_word(mark, wear), left - 1)
+}
+
+// Renews the first n pages with wear 1, in index order, all steps of each.
+pub fn renew_all(image: &mut [u8], mark: u8, n: usize)
+    requires { ⌜ (n ≤ 32) × (n * 1024 ≤ length (now image)) ⌝ }
+    ensures { λ r. ⌜ now (image .exit) ≡ run 1024 (renew-all mark 0 n) (now (image .entry)) ⌝ }
+{
+    let mut i = 0;
+    while i < n {
+        renew(image, i, mark, 1, 3);
+        i += 1;
+    }
+}
