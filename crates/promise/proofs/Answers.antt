@@ -15,7 +15,8 @@ use Rattle.rules.specs.Call.{page-size, page-mark, page-count, pages, cut, wron
 use Rattle.rules.proofs.Truth.{by-cases, is-false, not-both}
 use Rattle.rules.proofs.Stores.{orders-used, count-used, count-all}
 use Rattle.rules.proofs.Phases.{Pages}
-use Rattle.promise.proofs.Keeps.{told, Keeps}
+use Rattle.rules.proofs.Told.{told}
+use Rattle.promise.proofs.Keeps.{Keeps}
 use Rattle.promise.proofs.Good.{Good, journal-is}
 use Rattle.promise.proofs.Write.{Accepted}
 

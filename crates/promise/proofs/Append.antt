@@ -14,7 +14,8 @@ use Rattle.rules.proofs.Pages.{AllLight, open-by-header}
 use Rattle.rules.proofs.Slots.{records-append, no-record, blank-records, made-record}
 use Rattle.rules.proofs.Stores.{Below, orders, orders-append, base-amid, used-amid, used-open, journal-amid}
 use Rattle.rules.proofs.Phases.{Pages, Turns, Partial, word-turns}
-use Rattle.promise.proofs.Keeps.{Whole, AllWhole, told, Keeps, whole-amid, amid-whole, told-amid, same-count}
+use Rattle.rules.proofs.Told.{told, told-amid}
+use Rattle.promise.proofs.Keeps.{Whole, AllWhole, Keeps, whole-amid, amid-whole, same-count}
 
 -- a page that is used and newer than every other used one
 pub record Newest (mark b : ℕ) (f : Pages) (pg : List Word) (r : Pages) : Type 0 where

@@ -11,8 +11,10 @@ use Rattle.rules.specs.Steps.{unclean, renewed-wear, recovery-steps}
 use Rattle.rules.proofs.Truth.{by-cases, or-second}
 use Rattle.rules.proofs.Pages.{fresh-cleared}
 use Rattle.rules.proofs.Phases.{Pages, store-run, through-end}
-use Rattle.promise.proofs.Keeps.{told, Keeps}
-use Rattle.promise.proofs.Renewals.{fresh, renewed, renewals-run, renewals-through}
+use Rattle.rules.proofs.Told.{told}
+use Rattle.promise.proofs.Keeps.{Keeps}
+use Rattle.rules.proofs.Renewing.{fresh, renewed, renewals-run}
+use Rattle.promise.proofs.Renewals.{renewals-through}
 use Rattle.promise.proofs.Good.{Good, idle-unclean}
 
 module _ (mark k′ b : ℕ) where

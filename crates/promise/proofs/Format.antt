@@ -17,64 +17,12 @@ use Rattle.rules.proofs.Pages.{AllLight, replicate-light, replicate-all-blank, 
 use Rattle.rules.proofs.Slots.{blank-records}
 use Rattle.rules.proofs.Stores.{orders, NoneUsed, none-used-pages}
 use Rattle.rules.proofs.Phases.{Pages, Through, Fits, end, step, store-run, store-run-append, through-append, here-fits, word-through, word-run}
-use Rattle.promise.proofs.Keeps.{AllWhole, told, Keeps}
-use Rattle.promise.proofs.Renewals.{fresh, erased, renew-run, next-length}
+use Rattle.rules.proofs.Told.{told}
+use Rattle.promise.proofs.Keeps.{AllWhole, Keeps}
+use Rattle.rules.proofs.Renewing.{fresh, opened, formatted}
 use Rattle.promise.proofs.Good.{Good}
 
--- whatever stood there
-abbrev Any : Pages → Type 0
-Any F = Unit {0}
-
-module _ (mark k′ : ℕ) where
-  renew-any : (f : Pages) (pg : List Word) (r : Pages) (wear : ℕ) → Through (suc k′) Any (renew mark (length f) wear) (f ++ pg ∷ r)
-  unfolding renew Fits
-  renew-any f pg r wear =
-      let rest = word-through (suc k′) f r [] (replicate k′ blank-word) Any (wear-word mark wear) (wear-sound mark wear) (λ v l. tt) in
-      step (here-fits (suc k′) f pg r) tt (λ G x. tt) (subst (Through (suc k′) Any _) (sym (erased mark k′ f pg r wear)) rest)
-
-  abbrev all-fresh : Pages → Pages
-  all-fresh r = replicate (length r) (fresh mark k′ 1)
-
-  renew-all-run : (f r : Pages) → store-run (suc k′) (renew-all mark (length f) (length r)) (f ++ r) ≡ f ++ all-fresh r
-  unfolding renew-all store-run
-  renew-all-run f [] = refl
-  renew-all-run f (pg ∷ r) =
-      let q = fresh mark k′ 1 in
-      store-run-append (suc k′) (renew mark (length f) 1) (renew-all mark (suc (length f)) (length r)) (f ++ pg ∷ r)
-      ∙ ap (store-run (suc k′) (renew-all mark (suc (length f)) (length r))) (renew-run mark k′ f pg r 1)
-      ∙ (rw (next-length f q, append-snoc f q r, append-snoc f q (all-fresh r)) at (renew-all-run (f ++ q ∷ []) r))
-
-  renew-all-through : (f r : Pages) → Through (suc k′) Any (renew-all mark (length f) (length r)) (f ++ r)
-  unfolding renew-all
-  renew-all-through f [] = end tt
-  renew-all-through f (pg ∷ r) =
-      let q = fresh mark k′ 1 in
-      let later = renew-all mark (suc (length f)) (length r) in
-      through-append (suc k′) later (renew-any f pg r 1)
-      (subst (Through (suc k′) Any later) (sym (renew-run mark k′ f pg r 1)) (rw (next-length f q, append-snoc f q r) at (renew-all-through (f ++ q ∷ []) r)))
-
 module _ (mark m : ℕ) where
-  -- page 0, and the others
-  abbrev opened : List Word
-  opened = wear-word mark 1 ∷ opening-word 1 0 ∷ replicate (suc m) blank-word
-
-  abbrev pub formatted : ℕ → Pages
-  formatted n′ = opened ∷ replicate n′ (fresh mark (suc (suc m)) 1)
-
-  pub format-run : (pg : List Word) (r : Pages) → store-run (suc (suc (suc m))) (format-steps mark (suc (length r))) (pg ∷ r) ≡ formatted (length r)
-  unfolding format-steps
-  format-run pg r =
-      store-run-append (suc (suc (suc m))) (renew-all mark 0 (suc (length r))) (word-steps 0 opening-place (opening-word 1 0)) (pg ∷ r)
-      ∙ ap (store-run (suc (suc (suc m))) (word-steps 0 opening-place (opening-word 1 0))) (renew-all-run mark (suc (suc m)) [] (pg ∷ r))
-      ∙ word-run (suc (suc (suc m))) [] (replicate (length r) (fresh mark (suc (suc m)) 1)) (wear-word mark 1 ∷ []) (replicate (suc m) blank-word) (opening-word 1 0)
-
-  pub format-through : (pg : List Word) (r : Pages) → Through (suc (suc (suc m))) Any (format-steps mark (suc (length r))) (pg ∷ r)
-  unfolding format-steps
-  format-through pg r =
-      through-append (suc (suc (suc m))) (word-steps 0 opening-place (opening-word 1 0)) (renew-all-through mark (suc (suc m)) [] (pg ∷ r))
-      (subst (Through (suc (suc (suc m))) Any (word-steps 0 opening-place (opening-word 1 0))) (sym (renew-all-run mark (suc (suc m)) [] (pg ∷ r)))
-      (word-through (suc (suc (suc m))) [] (replicate (length r) (fresh mark (suc (suc m)) 1)) (wear-word mark 1 ∷ []) (replicate (suc m) blank-word) Any (opening-word 1 0) (opening-sound 1 0) (λ v l. tt)))
-
   fresh-state : state mark (fresh mark (suc (suc m)) 1) ≡ cleared 1
   fresh-state = fresh-cleared mark 1 (suc (suc m))
 
@@ -94,12 +42,12 @@ module _ (mark m : ℕ) where
   fresh-unused zero = tt
   fresh-unused (suc n) = (rw fresh-state, fresh-unused n)
 
-  pub format-good : (n′ L : ℕ) → 0 < n′ → Good mark (suc (suc (suc m))) (suc n′) L [] (formatted n′)
+  pub format-good : (n′ L : ℕ) → 0 < n′ → Good mark (suc (suc (suc m))) (suc n′) L [] (formatted mark m n′)
   unfolding AllWhole AllLight page base states order order₂ used used-pages add-page orders oldest-first insert all-records slots repeats among put-all
   format-good n′ L l =
-      let e : state mark opened ≡ open₁ 0 = opened-plain mark (wear-word mark 1) (wear-is-wear mark 1) 0 (replicate (suc m) blank-word) in
+      let e : state mark (opened mark m) ≡ open₁ 0 = opened-plain mark (wear-word mark 1) (wear-is-wear mark 1) 0 (replicate (suc m) blank-word) in
       let none = none-used-pages 0 (told mark (replicate n′ (fresh mark (suc (suc m)) 1))) (fresh-unused n′) in
-      let only : used-pages 0 (told mark (formatted n′)) ≡ page mark opened ∷ [] = rw (e, none) in
+      let only : used-pages 0 (told mark (formatted mark m n′)) ≡ page mark (opened mark m) ∷ [] = rw (e, none) in
       record {
         base-order = 0;
         used-by = 0 ∷ [];

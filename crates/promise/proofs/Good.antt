@@ -21,10 +21,13 @@ use Rattle.rules.proofs.Settings.{append-few, copies-few, copies-length, copies
 use Rattle.rules.proofs.Pages.{cleared-is, replicate-all-blank}
 use Rattle.rules.proofs.Stores.{orders, orders-used, greatest-among, greatest-upto, UpTo, Under, upto-under, ActiveAt, active-at, taken-at, slots-amid, repeats-insert, count-all, count-used}
 use Rattle.rules.proofs.Phases.{Pages, Through, Turns, end, step, turn, wait, store-run, word-run, turns-after, turns-through}
-use Rattle.promise.proofs.Keeps.{Whole, AllWhole, told, Keeps, whole-amid, Parted, parted, Headed, headed}
+use Rattle.rules.proofs.Told.{told, Parted, parted, Headed, headed}
+use Rattle.rules.proofs.Active as Active
+use Rattle.rules.proofs.Active.{Ordered, active-place, active-free, next-under, taken-page}
+use Rattle.promise.proofs.Keeps.{Whole, AllWhole, Keeps, whole-amid, whole-long}
 use Rattle.promise.proofs.Renewals.{Idle, renewals-through}
 use Rattle.promise.proofs.Append.{Newest, append-turns}
-use Rattle.promise.proofs.Open.{begun, taken-page, with-order, orders-apart, opened-newest, opened-keeps, opening-turns}
+use Rattle.promise.proofs.Open.{begun, with-order, orders-apart, opened-newest, opened-keeps, opening-turns}
 use Rattle.promise.proofs.Move.{move-turns}
 
 -- The invariant. L is the greatest number that may be held.
@@ -67,11 +70,6 @@ module _ (mark k′ n L : ℕ) where
 
 -- ---- writing
 
--- the greatest of the orders in use
-greatest-is : (os : List ℕ) → 0 < length os → among (greatest os) os ≡ true
-greatest-is [] h = absurd (omega arith)
-greatest-is (o ∷ os) h = greatest-among o os
-
 -- a good store in which each address has the value that t gives
 abbrev pub Has : (mark k n L : ℕ) → (ℕ → Option ℕ) → Pages → Type 0
 Has mark k n L t F = (J : List Setting) × Good mark k n L J F × ((x : ℕ) → last-of x J ≡ t x)
@@ -106,31 +104,14 @@ module _ (mark m n L : ℕ) (J : List Setting) (F : Pages) (g : Good mark (suc (
   abbrev os : List ℕ
   os = g .used-by
 
-  active-is : active-order (states (told mark F)) ≡ greatest os
-  unfolding active-order
-  active-is =
-      ap (λ (x : ℕ). greatest (used-orders x (states (told mark F)))) (g .keeps .is-base) ∙ ap greatest (orders-used b (told mark F) ∙ g .keeps .has-orders)
+  pub ordered : Ordered mark k b os F
+  ordered = record { long = whole-long k F (g .keeps .whole); is-base = g .keeps .is-base; has-orders = g .keeps .has-orders; apart = g .apart; some = g .some }
 
-  active : ActiveAt b (greatest os) (told mark F)
-  active =
-      active-at b (greatest os) (told mark F) (rw (g .keeps .has-orders) (greatest-upto os)) (rw (g .keeps .has-orders) (greatest-is os (g .some))) (rw (g .keeps .has-orders) (g .apart))
+  abbrev active : ActiveAt b (greatest os) (told mark F)
+  active = Active.active mark k b os F ordered
 
-  at-active : Parted mark F (active .front) (active .page) (active .rest)
-  at-active = parted mark F (active .front) (active .page) (active .rest) (active .form)
-
-  active-place : active-index (states (told mark F)) ≡ length (at-active .front)
-  unfolding active-index
-  active-place =
-      ap₂ (λ (x y : ℕ). index-of (is-active x y) (states (told mark F))) (g .keeps .is-base) active-is ∙ active .place
-      ∙ sym (ap length (at-active .front-told)) ∙ length-map (at-active .front) (page mark)
-
-  slots-active : active-slots (told mark F) ≡ slots (at-active .here)
-  unfolding active-slots page
-  slots-active =
-      ap (λ (x : ℕ). slots-at x (told mark F)) (active-place ∙ sym (length-map (at-active .front) (page mark)) ∙ ap length (at-active .front-told))
-      ∙ ap (slots-at (length (active .front))) (active .form)
-      ∙ slots-amid (active .front) (active .page) (active .rest)
-      ∙ ap (λ (p : Page). p .slots) (sym (at-active .here-told))
+  abbrev at-active : Parted mark F (active .front) (active .page) (active .rest)
+  at-active = Active.at-active mark k b os F ordered
 
   active-newest : Newest mark b (at-active .front) (at-active .here) (at-active .rest)
   unfolding page
@@ -143,18 +124,10 @@ module _ (mark m n L : ℕ) (J : List Setting) (F : Pages) (g : Good mark (suc (
         behind = rw (o, at-active .rest-told) (active .behind);
       }
 
-  -- the free slot of the active page
-  active-free : has-free-slot (told mark F) ≡ true → (hd : Headed m (at-active .here)) × FreeAt (hd .ws) × (free-slot (active-slots (told mark F)) ≡ free-slot (hd .ws))
-  unfolding has-free-slot slots
-  active-free free =
-      let hd = headed m (at-active .here) (whole-amid k (at-active .front) (at-active .here) (at-active .rest) (subst (AllWhole k) (at-active .form) (g .keeps .whole)) .1 .0) in
-      let sl : active-slots (told mark F) ≡ hd .ws = slots-active ∙ ap slots (hd .form) in
-      (hd, free-at (hd .ws) (ltb-true (free-slot (hd .ws)) (length (hd .ws)) (rw sl at free)), ap free-slot sl)
-
   pub append-case : (a v : ℕ) → (a ≡ 65535 → ⊥) → (last-of a J ≡ none → length (put-all [] J) < L) → has-free-slot (told mark F) ≡ true
       → Turns k (Good mark k n L J) (Good mark k n L (J ++ setting a v ∷ [])) (append-steps a v (told mark F)) F
   unfolding append-steps
-  append-case a v ne room free = into (active-free free)
+  append-case a v ne room free = into (active-free mark m b os F ordered free)
     where
       into : (hd : Headed m (at-active .here)) × FreeAt (hd .ws) × (free-slot (active-slots (told mark F)) ≡ free-slot (hd .ws)) → Turns k (Good mark k n L J) (Good mark k n L (J ++ setting a v ∷ [])) (append-steps a v (told mark F)) F
       into t =
@@ -162,57 +135,13 @@ module _ (mark m n L : ℕ) (J : List Setting) (F : Pages) (g : Good mark (suc (
           let at = t .1 in
           let pg-is : at-active .here ≡ hd .x ∷ hd .y ∷ hd .z ∷ (at .front ++ blank-word ∷ at .rest) = hd .form ∙ ap (λ (ws : List Word). hd .x ∷ hd .y ∷ hd .z ∷ ws) (at .form) in
           append-good mark m n L J F g a v ne room (active-index (states (told mark F))) (free-slot (active-slots (told mark F))) (at-active .front) (hd .x) (hd .y) (hd .z) (at .front) (at .rest) (at-active .rest)
-          (at-active .form ∙ ap (λ (q : List Word). at-active .front ++ q ∷ at-active .rest) pg-is) active-place (t .2 ∙ sym (at .place))
+          (at-active .form ∙ ap (λ (q : List Word). at-active .front ++ q ∷ at-active .rest) pg-is) (active-place mark k b os F ordered) (t .2 ∙ sym (at .place))
           (subst (λ (q : List Word). Newest mark b (at-active .front) q (at-active .rest)) pg-is active-newest) (at .behind)
-
--- ---- a page is taken
-
-pub record Takes (mark m : ℕ) (F : Pages) : Type 0 where
-  pub front : Pages
-  pub first : Word
-  pub rest : Pages
-  pub form : F ≡ front ++ taken-page m first ∷ rest
-  pub place : taken (told mark F) ≡ length front
-  pub worn : is-wear mark first ≡ true
-
--- a store with a spare page, all of whose pages are used or cleared, has a cleared one
-pub some-cleared : (mark k n L : ℕ) (J : List Setting) (F : Pages) (g : Good mark k n L J F) → count (unclean (g .base-order)) (states (told mark F)) ≡ 0 → length (g .used-by) + count is-cleared (states (told mark F)) ≡ n
-unfolding states
-some-cleared mark k n L J F g c =
-    let all = count-all (g .base-order) (states (told mark F)) in
-    let us = count-used (g .base-order) (told mark F) in
-    let os = ap length (g .keeps .has-orders) in
-    let ls : length (states (told mark F)) ≡ n = length-states (told mark F) ∙ length-map F (page mark) ∙ g .keeps .count in
-    omega arith
-  where
-    length-states : (ps : List Page) → length (states ps) ≡ length ps
-    length-states [] = refl
-    length-states (p ∷ ps) = ap suc (length-states ps)
-
-pub takes : (mark m : ℕ) (F : Pages) → AllWhole (suc (suc (suc m))) F → (count is-cleared (states (told mark F)) ≡ 0 → ⊥) → Takes mark m F
-unfolding taken index page
-takes mark m F whole h =
-    let t = taken-at 0 (told mark F) h in
-    let p = parted mark F (t .front) (t .page) (t .rest) (t .form) in
-    let e : state mark (p .here) ≡ cleared (t .wear) = ap (λ (q : Page). q .state) (p .here-told) ∙ t .is-cleared in
-    let c = cleared-is mark (p .here) (t .wear) e in
-    let w = whole-amid (suc (suc (suc m))) (p .front) (p .here) (p .rest) (subst (AllWhole (suc (suc (suc m)))) (p .form) whole) .1 in
-    let l : suc (c .rest) ≡ suc (suc (suc m)) = sym (ap suc (length-replicate (c .rest) blank-word)) ∙ sym (ap length (c .form)) ∙ w .0 in
-    let z : c .rest ≡ suc (suc m) = omega arith in
-    let d : 0 + length (t .front) ≡ length (p .front) = (let y = ap length (p .front-told) in let x = length-map (p .front) (page mark) in omega arith) in
-    record {
-      front = p .front;
-      first = c .first;
-      rest = p .rest;
-      form = p .form ∙ ap (λ (q : List Word). p .front ++ q ∷ p .rest) (c .form ∙ ap (λ (i : ℕ). c .first ∷ replicate i blank-word) z);
-      place = ap index (t .place) ∙ d;
-      worn = c .wear;
-    }
 
 module _ (mark m n L : ℕ) (J : List Setting) (F : Pages) (g : Good mark (suc (suc (suc m))) n L J F) where
   -- the next order is above all in use
-  pub next-under : Under (active-order (states (told mark F)) + 1) (g .used-by)
-  next-under = rw (active-is mark m n L J F g) (upto-under (greatest (g .used-by)) (g .used-by) (greatest-upto (g .used-by)))
+  pub good-under : Under (active-order (states (told mark F)) + 1) (g .used-by)
+  good-under = next-under mark (suc (suc (suc m))) (g .base-order) (g .used-by) F (ordered mark m n L J F g)
 
   pub journal-is : journal (told mark F) ≡ J
   unfolding journal
@@ -227,7 +156,7 @@ module _ (mark m n L : ℕ) (J : List Setting) (f : Pages) (w : Word) (r : Pages
   next = active-order (states (told mark (f ++ taken-page m w ∷ r))) + 1
 
   under : Under next (g .used-by)
-  under = next-under mark m n L J (f ++ taken-page m w ∷ r) g
+  under = good-under mark m n L J (f ++ taken-page m w ∷ r) g
 
   abbrev wider : List ℕ
   wider = with-order mark m n (g .base-order) (g .used-by) J f w r next worn under (g .some) (g .keeps)

@@ -12,6 +12,8 @@ use Rattle.rules.specs.Store.{states, base, used, is-open, used-pages, oldest-f
 use Rattle.rules.proofs.Pages.{AllLight, Fades}
 use Rattle.rules.proofs.Stores.{orders, fade-base, fade-pages}
 use Rattle.rules.proofs.Phases.{Pages}
+use Rattle.rules.proofs.Cut.{AllLength}
+use Rattle.rules.proofs.Told.{told, told-amid}
 
 -- a page of k words, all light
 abbrev pub Whole : ℕ → List Word → Type 0
@@ -20,10 +22,6 @@ Whole k pg = (length pg ≡ k) × AllLight pg
 unfoldable pub AllWhole : ℕ → Pages → Type 0
 AllWhole k [] = Unit {0}
 AllWhole k (pg ∷ F) = Whole k pg × AllWhole k F
-
--- what the pages say
-abbrev pub told : (mark : ℕ) → Pages → List Page
-told mark F = map (page mark) F
 
 -- A store keeps a journal: n whole pages, with a base order, the orders of its used pages by index, and their records, oldest
 -- first. Everything that a call answers by is one of these.
@@ -39,13 +37,15 @@ unfolding AllWhole
 whole-amid k [] pg r h = (tt, h .0, h .1)
 whole-amid k (x ∷ f) pg r h = let t = whole-amid k f pg r (h .1) in ((h .0, t .0), t .1, t .2)
 
+pub whole-long : (k : ℕ) (F : Pages) → AllWhole k F → AllLength k F
+unfolding AllWhole AllLength
+whole-long k [] h = tt
+whole-long k (pg ∷ F) h = (h .0 .0, whole-long k F (h .1))
+
 pub amid-whole : (k : ℕ) (f : Pages) (pg : List Word) (r : Pages) → AllWhole k f → Whole k pg → AllWhole k r → AllWhole k (f ++ pg ∷ r)
 unfolding AllWhole
 amid-whole k [] pg r a b c = (b, c)
 amid-whole k (x ∷ f) pg r a b c = (a .0, amid-whole k f pg r (a .1) b c)
-
-pub told-amid : (mark : ℕ) (f : Pages) (pg : List Word) (r : Pages) → told mark (f ++ pg ∷ r) ≡ told mark f ++ page mark pg ∷ told mark r
-told-amid mark f pg r = map-append (page mark) f (pg ∷ r)
 
 pub same-count : (f : Pages) (pg qg : List Word) (r : Pages) → length (f ++ qg ∷ r) ≡ length (f ++ pg ∷ r)
 same-count f pg qg r = length-append f (qg ∷ r) ∙ sym (length-append f (pg ∷ r))
@@ -70,44 +70,3 @@ module _ (mark k n b : ℕ) (os : List ℕ) (J : List Setting) where
         has-orders = rw told-amid (ap orders ep ∙ (rw told-amid at (h .has-orders)));
         has-journal = rw told-amid (ap (λ (ps : List Page). all-records (oldest-first ps)) ep ∙ (rw told-amid at (h .has-journal)));
       }
-
--- where what the pages say is parted, the pages can be
-pub record Parted (mark : ℕ) (F : Pages) (fp : List Page) (p : Page) (rp : List Page) : Type 0 where
-  pub front : Pages
-  pub here : List Word
-  pub rest : Pages
-  pub form : F ≡ front ++ here ∷ rest
-  pub front-told : told mark front ≡ fp
-  pub here-told : page mark here ≡ p
-  pub rest-told : told mark rest ≡ rp
-
-pub parted : (mark : ℕ) (F : Pages) (fp : List Page) (p : Page) (rp : List Page) → told mark F ≡ fp ++ p ∷ rp → Parted mark F fp p rp
-parted mark [] [] p rp e = absurd (nil≢cons e)
-parted mark [] (x ∷ fp) p rp e = absurd (nil≢cons e)
-parted mark (pg ∷ F) [] p rp e =
-    record { front = []; here = pg; rest = F; form = refl; front-told = refl; here-told = head-eq-of-cons-eq e; rest-told = tail-eq-of-cons-eq e }
-parted mark (pg ∷ F) (x ∷ fp) p rp e =
-    let t = parted mark F fp p rp (tail-eq-of-cons-eq e) in
-    record {
-      front = pg ∷ t .front;
-      here = t .here;
-      rest = t .rest;
-      form = ap (λ (G : Pages). pg ∷ G) (t .form);
-      front-told = ap₂ (λ (y : Page) (ys : List Page). y ∷ ys) (head-eq-of-cons-eq e) (t .front-told);
-      here-told = t .here-told;
-      rest-told = t .rest-told;
-    }
-
--- a page with room for its header is its header and its slots
-pub record Headed (m : ℕ) (pg : List Word) : Type 0 where
-  pub x : Word
-  pub y : Word
-  pub z : Word
-  pub ws : List Word
-  pub form : pg ≡ x ∷ y ∷ z ∷ ws
-
-pub headed : (m : ℕ) (pg : List Word) → length pg ≡ suc (suc (suc m)) → Headed m pg
-headed m [] e = absurd (let e′ : 0 ≡ suc (suc (suc m)) = e in omega arith)
-headed m (x ∷ []) e = absurd (let e′ : 1 ≡ suc (suc (suc m)) = e in omega arith)
-headed m (x ∷ y ∷ []) e = absurd (let e′ : 2 ≡ suc (suc (suc m)) = e in omega arith)
-headed m (x ∷ y ∷ z ∷ ws) e = record { x = x; y = y; z = z; ws = ws; form = refl }

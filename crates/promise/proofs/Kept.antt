@@ -21,13 +21,14 @@ use Rattle.rules.proofs.Cut.{cut-length}
 use Rattle.rules.proofs.Settings.{last-of-here, last-of-other}
 use Rattle.promise.specs.Promise.{Left, between, failing, later, InUse, formatted, recovered, written, Recoveries, none as no-more, more, Cut, Promise, Recovers, Found, finds, recovery-of, write-of, nothing-is-lost, recovery-mends, what-is-written-is-found}
 use Rattle.rules.proofs.Phases.{Pages, Through, Turns, StoreLeft, through-left, through-end, turns-left, turns-later, turns-end, store-run}
-use Rattle.promise.proofs.Keeps.{told}
+use Rattle.rules.proofs.Told.{told}
 use Rattle.promise.proofs.Good.{Good, recovery-through}
 use Rattle.promise.proofs.Write.{Has, old-values, new-values, write-turns}
 use Rattle.rules.proofs.Plans.{run-pages}
 use Rattle.promise.proofs.Images.{left-pages, turns-either}
 use Rattle.promise.proofs.Answers.{Kept-well, pages-are, store-ok, read-is, answer, new-answer, accepted-here, address-right, value-here}
-use Rattle.promise.proofs.Format.{formatted as formatted-store, format-good, format-run, format-through}
+use Rattle.rules.proofs.Renewing.{formatted as formatted-store, format-run, format-through}
+use Rattle.promise.proofs.Format.{format-good}
 use Rattle.promise.proofs.Clean.{recovered-clean}
 
 -- ---- a recovery

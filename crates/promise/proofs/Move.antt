@@ -21,23 +21,13 @@ use Rattle.rules.proofs.Pages.{AllLight, replicate-light, replicate-all-blank, 
 use Rattle.rules.proofs.Slots.{blank-records, records-append, Lawful, written, written-records}
 use Rattle.rules.proofs.Stores.{Under, orders, base-amid, used-amid, NoneUsed, none-used, none-used-pages, under-append}
 use Rattle.rules.proofs.Phases.{Pages, Turns, Through, end, Partial, word-turns, word-run, word-through, turns-through, through-append, through-end, turns-after, turns-before, store-run, store-run-append}
-use Rattle.promise.proofs.Keeps.{Whole, AllWhole, told, Keeps, whole-amid, amid-whole, told-amid, same-count}
+use Rattle.rules.proofs.Told.{told, told-amid}
+use Rattle.promise.proofs.Keeps.{Whole, AllWhole, Keeps, whole-amid, amid-whole, same-count}
 use Rattle.promise.proofs.Renewals.{Idle, renewals-through}
 use Rattle.promise.proofs.Append.{whole-word}
-use Rattle.promise.proofs.Open.{begun, taken-page, closed-keeps, partial-opening, taken-whole, base-below, base-apart, under-apart}
-
--- blank slots for the records to come, and then ys
-unfoldable pub room : List Setting → List Word → List Word
-room [] ys = ys
-room (c ∷ cs) ys = blank-word ∷ room cs ys
-
-pub room-is : (cs : List Setting) (m : ℕ) → length cs ≤ m → replicate m blank-word ≡ room cs (replicate (m - length cs) blank-word)
-unfolding room
-room-is [] m h = let e : m ≡ m - 0 = omega arith in ap (λ (i : ℕ). replicate i blank-word) e
-room-is (c ∷ cs) zero h = absurd (omega arith)
-room-is (c ∷ cs) (suc m) h =
-    let e : m - length cs ≡ suc m - suc (length cs) = omega arith in
-    ap (λ (ws : List Word). blank-word ∷ ws) (room-is cs m (le-of-suc-le-suc h) ∙ ap (λ (i : ℕ). room cs (replicate i blank-word)) e)
+use Rattle.rules.proofs.Active.{taken-page}
+use Rattle.rules.proofs.Building.{room, room-is, copy-run, copy-through}
+use Rattle.promise.proofs.Open.{begun, closed-keeps, partial-opening, taken-whole, base-below, base-apart, under-apart}
 
 module _ (mark m n b : ℕ) (os : List ℕ) (J : List Setting) (f : Pages) (w : Word) (r : Pages) (o : ℕ) (worn : is-wear mark w ≡ true) (under : Under o os) (some-used : 0 < length os) (h : Keeps mark (suc (suc (suc m))) n b os J (f ++ taken-page m w ∷ r)) where
   abbrev k : ℕ
@@ -70,36 +60,10 @@ module _ (mark m n b : ℕ) (os : List ℕ) (J : List Setting) (f : Pages) (w : 
   opening-run = word-run k f r (w ∷ []) (replicate (suc m) blank-word) (opening-word 2 o)
 
   -- one copy after the other
-  module _ (ys : List Word) where
-    copy-at : (a v : ℕ) (xs : List Word) (cs : List Setting) → word-steps (length f) (slot-place (length xs)) (record-word a v) ≡ word-steps (length f) (length (w ∷ opening-word 2 o ∷ blank-word ∷ xs)) (record-word a v)
-    copy-at a v xs cs = let e : slot-place (length xs) ≡ length (w ∷ opening-word 2 o ∷ blank-word ∷ xs) = omega arith in ap (λ (i : ℕ). word-steps (length f) i (record-word a v)) e
-
-    next-slot : (x : Word) (xs : List Word) → length (xs ++ x ∷ []) ≡ suc (length xs)
-    next-slot x xs = let e = length-append xs (x ∷ []) in omega arith
-
-    pub copy-run : (cs : List Setting) (xs : List Word) → store-run k (copy-steps (length f) (length xs) cs) (f ++ receives blank-word (xs ++ room cs ys) ∷ r) ≡ f ++ receives blank-word (xs ++ (written cs ++ ys)) ∷ r
-    unfolding copy-steps room written store-run
-    copy-run [] xs = refl
-    copy-run (setting a v ∷ cs) xs =
-        let x = record-word a v in
-        let rest = copy-run cs (xs ++ x ∷ []) in
-        ap (λ (ss : List Step). store-run k (ss ++ copy-steps (length f) (suc (length xs)) cs) (f ++ receives blank-word (xs ++ blank-word ∷ room cs ys) ∷ r)) (copy-at a v xs cs)
-        ∙ store-run-append k (word-steps (length f) (length (w ∷ opening-word 2 o ∷ blank-word ∷ xs)) x) (copy-steps (length f) (suc (length xs)) cs) (f ++ receives blank-word (xs ++ blank-word ∷ room cs ys) ∷ r)
-        ∙ ap (store-run k (copy-steps (length f) (suc (length xs)) cs)) (word-run k f r (w ∷ opening-word 2 o ∷ blank-word ∷ xs) (room cs ys) x)
-        ∙ (rw (next-slot x xs, append-snoc xs x (room cs ys), append-snoc xs x (written cs ++ ys)) at rest)
-
-    pub copy-through : (cs : List Setting) (xs : List Word) → Whole k (receives blank-word (xs ++ room cs ys)) → Through k Old (copy-steps (length f) (length xs) cs) (f ++ receives blank-word (xs ++ room cs ys) ∷ r)
-    unfolding copy-steps room
-    copy-through [] xs q = end (receiving-keeps blank-word (xs ++ ys) blank-not-sound q)
-    copy-through (setting a v ∷ cs) xs q =
-        let x = record-word a v in
-        let front = w ∷ opening-word 2 o ∷ blank-word ∷ xs in
-        let later = copy-steps (length f) (suc (length xs)) cs in
-        let first = word-through k f r front (room cs ys) Old x (record-sound a v) (λ u l. receiving-keeps blank-word (xs ++ u ∷ room cs ys) blank-not-sound (whole-word k front blank-word u (room cs ys) q l)) in
-        let q′ : Whole k (receives blank-word ((xs ++ x ∷ []) ++ room cs ys)) = rw append-snoc (whole-word k front blank-word x (room cs ys) q (sound-light x (record-sound a v))) in
-        let rest : Through k Old later (f ++ receives blank-word (xs ++ x ∷ room cs ys) ∷ r) = rw (next-slot x xs, append-snoc xs x (room cs ys)) at (copy-through cs (xs ++ x ∷ []) q′) in
-        subst (λ (ss : List Step). Through k Old (ss ++ later) (f ++ receives blank-word (xs ++ blank-word ∷ room cs ys) ∷ r)) (sym (copy-at a v xs cs))
-        (through-append k later first (subst (Through k Old later) (sym (word-run k f r front (room cs ys) x)) rest))
+  copying : (ys : List Word) (cs : List Setting) → Whole k (receives blank-word (room cs ys)) → Through k Old (copy-steps (length f) 0 cs) (f ++ receives blank-word (room cs ys) ∷ r)
+  copying ys cs q =
+      copy-through k f r w (opening-word 2 o) ys Old (λ ws. Whole k (receives blank-word ws)) (λ ws h. receiving-keeps blank-word ws blank-not-sound h)
+      (λ xs v zs l h. whole-word k (w ∷ opening-word 2 o ∷ blank-word ∷ xs) blank-word v zs h l) cs [] q
 
   -- with its done word the page is the store
   module _ (cs : List Setting) (lawful : Lawful cs) (j : ℕ) (full : Whole k (receives blank-word (written cs ++ replicate j blank-word))) where
@@ -189,21 +153,21 @@ module _ (mark m n b : ℕ) (os : List ℕ) (J : List Setting) (f : Pages) (w : 
       let k = suc (suc (suc m)) in
       let j = m - length cs in
       let opening = word-steps (length f) opening-place (opening-word 2 o) in
-      let copying = copy-steps (length f) 0 cs in
+      let copy = copy-steps (length f) 0 cs in
       let doing = word-steps (length f) done-place (done-word o) in
       let F = f ++ taken-page m w ∷ r in
       let spare = room-is cs m fits in
       let begins : Whole k (w ∷ opening-word 2 o ∷ blank-word ∷ room cs (replicate j blank-word)) = rw spare at (started mark m n b os J f w r o worn under some-used h) in
-      let copies = copy-through mark m n b os J f w r o worn under some-used h (replicate j blank-word) cs [] begins in
-      let copied = copy-run mark m n b os J f w r o worn under some-used h (replicate j blank-word) cs [] in
+      let copies = copying mark m n b os J f w r o worn under some-used h (replicate j blank-word) cs begins in
+      let copied = copy-run k f r w (opening-word 2 o) (replicate j blank-word) cs [] in
       let opened : store-run k opening F ≡ f ++ (w ∷ opening-word 2 o ∷ blank-word ∷ room cs (replicate j blank-word)) ∷ r = opening-run mark m n b os J f w r o worn under some-used h ∙ ap (λ (ws : List Word). f ++ (w ∷ opening-word 2 o ∷ blank-word ∷ ws) ∷ r) spare in
-      let first = through-append k copying (opening-through mark m n b os J f w r o worn under some-used h) (subst (Through k (Keeps mark k n b os J) copying) (sym opened) copies) in
+      let first = through-append k copy (opening-through mark m n b os J f w r o worn under some-used h) (subst (Through k (Keeps mark k n b os J) copy) (sym opened) copies) in
       let full : Whole k (w ∷ opening-word 2 o ∷ blank-word ∷ (written cs ++ replicate j blank-word)) = whole-amid k f (w ∷ opening-word 2 o ∷ blank-word ∷ (written cs ++ replicate j blank-word)) r (subst (Keeps mark k n b os J) copied (through-end k copies) .whole) .1 in
       let New = Keeps mark k n o (o ∷ []) cs in
       let G = f ++ (w ∷ opening-word 2 o ∷ done-word o ∷ (written cs ++ replicate j blank-word)) ∷ r in
-      let ran : store-run k (opening ++ copying) F ≡ f ++ (w ∷ opening-word 2 o ∷ blank-word ∷ (written cs ++ replicate j blank-word)) ∷ r = store-run-append k opening copying F ∙ ap (store-run k copying) opened ∙ copied in
+      let ran : store-run k (opening ++ copy) F ≡ f ++ (w ∷ opening-word 2 o ∷ blank-word ∷ (written cs ++ replicate j blank-word)) ∷ r = store-run-append k opening copy F ∙ ap (store-run k copy) opened ∙ copied in
       let second = turns-after k first (subst (Turns k (Keeps mark k n b os J) New doing) (sym ran) (done-turns mark m n b os J f w r o worn under some-used h cs lawful j full)) in
-      let done : store-run k (opening ++ copying ++ doing) F ≡ G = store-run-append k (opening ++ copying) doing F ∙ ap (store-run k doing) ran ∙ done-run mark m n b os J f w r o worn under some-used h cs lawful j full in
+      let done : store-run k (opening ++ copy ++ doing) F ≡ G = store-run-append k (opening ++ copy) doing F ∙ ap (store-run k doing) ran ∙ done-run mark m n b os J f w r o worn under some-used h cs lawful j full in
       let unused = others-unused mark m n b os J f w r o worn under some-used h cs lawful j full in
       let renewing = renewals-through mark (suc (suc m)) n o (o ∷ []) cs other [] G (idle-amid mark o other 0 f (w ∷ opening-word 2 o ∷ done-word o ∷ (written cs ++ replicate j blank-word)) r (unused .0) (unused .1) other-not) (done-keeps mark m n b os J f w r o worn under some-used h cs lawful j full) in
       let alike : renewals mark other 0 (told mark G) ≡ renewals mark other 0 (told mark F) =

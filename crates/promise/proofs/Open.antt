@@ -16,15 +16,14 @@ use Rattle.rules.proofs.Pages.{AllLight, Fades, replicate-light, replicate-all-
 use Rattle.rules.proofs.Slots.{blank-records}
 use Rattle.rules.proofs.Stores.{Below, Under, orders, orders-append, base-amid, used-amid, unused-amid, closed-not-used, closed-order₂, under-below, under-append, base-under, journal-amid}
 use Rattle.rules.proofs.Phases.{Pages, Turns, Through, Partial, word-turns, word-run, turns-through}
-use Rattle.promise.proofs.Keeps.{Whole, AllWhole, told, Keeps, whole-amid, amid-whole, told-amid, same-count, keeps-fade}
+use Rattle.rules.proofs.Told.{told, told-amid}
+use Rattle.promise.proofs.Keeps.{Whole, AllWhole, Keeps, whole-amid, amid-whole, same-count, keeps-fade}
+use Rattle.rules.proofs.Active.{taken-page}
 use Rattle.promise.proofs.Append.{Newest, others, whole-word}
 
 -- the page that is taken, with v for its opening word
 abbrev pub begun : (m : ℕ) → Word → Word → List Word
 begun m w v = w ∷ v ∷ replicate (suc m) blank-word
-
-abbrev pub taken-page : (m : ℕ) → Word → List Word
-taken-page m w = begun m w blank-word
 
 module _ (mark m n b : ℕ) (os : List ℕ) (J : List Setting) (f : Pages) (w : Word) (r : Pages) (o : ℕ) (worn : is-wear mark w ≡ true) (under : Under o os) (some-used : 0 < length os) (h : Keeps mark (suc (suc (suc m))) n b os J (f ++ taken-page m w ∷ r)) where
   abbrev k : ℕ

@@ -17,61 +17,16 @@ use Rattle.rules.proofs.Words.{Light, wear-sound}
 use Rattle.rules.proofs.Shape.{target, page-after, WordsRise, PageFails, erasing, store-after, StoreFails}
 use Rattle.rules.proofs.Pages.{AllLight, replicate-light, rise-light, rise-length, rise-fades, fresh-not-open}
 use Rattle.rules.proofs.Phases.{Pages, Through, end, step, store-run, store-run-append, through-end, through-append, after-amid, fails-amid, word-through, word-run, Fits, here-fits}
+use Rattle.rules.proofs.Renewing.{fresh, next-length, erased, renew-run, rest-steps}
 use Rattle.promise.proofs.Keeps.{Whole, AllWhole, Keeps, whole-amid, keeps-fade}
 
 erase-fails : {p : ℕ} {pg qg : List Word} → PageFails (erase p) pg qg → WordsRise pg qg
 erase-fails (erasing r) = r
 
--- a renewed page
-abbrev pub fresh : (mark k′ wear : ℕ) → List Word
-fresh mark k′ wear = wear-word mark wear ∷ replicate k′ blank-word
-
 -- the pages that are picked are not used
 unfoldable pub Idle : (mark b : ℕ) → (ℕ → State → Bool) → ℕ → Pages → Type 0
 Idle mark b picks i [] = Unit {0}
 Idle mark b picks i (pg ∷ F) = (picks i (state mark pg) ≡ true → used b (state mark pg) ≡ false) × Idle mark b picks (suc i) F
-
--- the pages as renewed
-unfoldable pub renewed : (mark k′ : ℕ) → (ℕ → State → Bool) → ℕ → Pages → Pages
-renewed mark k′ picks i [] = []
-renewed mark k′ picks i (pg ∷ F) = cond (picks i (state mark pg)) (fresh mark k′ (renewed-wear (wear-in mark pg))) pg ∷ renewed mark k′ picks (suc i) F
-
-pub next-length : (f : Pages) (qg : List Word) → length (f ++ qg ∷ []) ≡ suc (length f)
-next-length f qg = let e = length-append f (qg ∷ []) in omega arith
-
-module _ (mark k′ : ℕ) (f : Pages) (pg : List Word) (r : Pages) (wear : ℕ) where
-  pub erased : store-after (suc k′) (erase (length f)) (f ++ pg ∷ r) ≡ f ++ replicate (suc k′) blank-word ∷ r
-  unfolding target page-after
-  erased = after-amid (suc k′) f pg r (erase (length f)) refl
-
-  pub renew-run : store-run (suc k′) (renew mark (length f) wear) (f ++ pg ∷ r) ≡ f ++ fresh mark k′ wear ∷ r
-  unfolding renew store-run
-  renew-run =
-      ap (store-run (suc k′) (word-steps (length f) 0 (wear-word mark wear))) erased
-      ∙ word-run (suc k′) f r [] (replicate k′ blank-word) (wear-word mark wear)
-
-module _ (mark k′ : ℕ) (picks : ℕ → State → Bool) where
-  -- the steps for the pages from the i-th on
-  abbrev rest-steps : ℕ → Pages → List Step
-  rest-steps i F = renewals mark picks i (map (page mark) F)
-
-  onward : (f : Pages) (qg : List Word) (F : Pages)
-      → store-run (suc k′) (rest-steps (length (f ++ qg ∷ [])) F) ((f ++ qg ∷ []) ++ F) ≡ (f ++ qg ∷ []) ++ renewed mark k′ picks (length (f ++ qg ∷ [])) F
-      → store-run (suc k′) (rest-steps (suc (length f)) F) (f ++ qg ∷ F) ≡ f ++ qg ∷ renewed mark k′ picks (suc (length f)) F
-  onward f qg F h = rw (next-length f qg, append-snoc f qg F, append-snoc f qg (renewed mark k′ picks (suc (length f)) F)) at h
-
-  pub renewals-run : (f F : Pages) → store-run (suc k′) (rest-steps (length f) F) (f ++ F) ≡ f ++ renewed mark k′ picks (length f) F
-  unfolding renewals renewed add-steps page store-run
-  renewals-run f [] = refl
-  renewals-run f (pg ∷ F) =
-      by-cases (picks (length f) (state mark pg))
-      (λ t.
-      let w = renewed-wear (wear-in mark pg) in
-      rw t
-      (store-run-append (suc k′) (renew mark (length f) w) (rest-steps (suc (length f)) F) (f ++ pg ∷ F)
-      ∙ ap (store-run (suc k′) (rest-steps (suc (length f)) F)) (renew-run mark k′ f pg F w)
-      ∙ onward f (fresh mark k′ w) F (renewals-run (f ++ fresh mark k′ w ∷ []) F)))
-      (λ t. rw t (onward f pg F (renewals-run (f ++ pg ∷ []) F)))
 
 module _ (mark k′ n b : ℕ) (os : List ℕ) (J : List Setting) where
   abbrev pub Keeping : Pages → Type 0

@@ -20,10 +20,11 @@ use Rattle.rules.proofs.Slots.{Lawful, put-all-lawful, but-lawful, lawful-appen
 use Rattle.rules.proofs.Settings.{copies-few, copies-length, copies-last}
 use Rattle.rules.proofs.Stores.{Under}
 use Rattle.rules.proofs.Phases.{Pages, Turns}
-use Rattle.promise.proofs.Keeps.{told, Keeps}
-use Rattle.promise.proofs.Open.{taken-page}
+use Rattle.rules.proofs.Told.{told}
+use Rattle.promise.proofs.Keeps.{Keeps}
+use Rattle.rules.proofs.Active.{taken-page, takes, some-cleared}
 use Rattle.promise.proofs.Move.{move-turns}
-use Rattle.promise.proofs.Good.{Good, turns-map, append-case, Takes, takes, some-cleared, next-under, journal-is, lawful-journal, open-good}
+use Rattle.promise.proofs.Good.{Good, turns-map, append-case, ordered, good-under, journal-is, lawful-journal, open-good}
 
 -- a good store in which each address has the value that t gives
 abbrev pub Has : (mark k n L : ℕ) → (ℕ → Option ℕ) → Pages → Type 0
@@ -86,13 +87,13 @@ module _ (mark m′ n L : ℕ) (a v : ℕ) (J : List Setting) (two : 2 ≤ n) (w
         let o = active-order (states (told mark F)) + 1 in
         let fits : length copied ≤ m = (let x = copies-length a v J L (g .few) room in omega arith) in
         rw (place, journal-is mark m n L J F g)
-        (turns-map k kept-good (moved-good o) (move-turns mark m n (g .base-order) (g .used-by) J f w r o worn (next-under mark m n L J F g) (g .some) (g .keeps) copied copied-lawful fits))
+        (turns-map k kept-good (moved-good o) (move-turns mark m n (g .base-order) (g .used-by) J f w r o worn (good-under mark m n L J F g) (g .some) (g .keeps) copied copied-lawful fits))
 
   -- the page that is taken stands between the others
   module _ (f : Pages) (w : Word) (r : Pages) (h : Accepted mark k n L a v J (f ++ taken-page m w ∷ r)) (worn : is-wear mark w ≡ true) (place : taken (told mark (f ++ taken-page m w ∷ r)) ≡ length f) where
     open-accepted : leb 2 (count is-cleared (states (told mark (f ++ taken-page m w ∷ r)))) ≡ true → Turns k Old New (open-steps a v (told mark (f ++ taken-page m w ∷ r))) (f ++ taken-page m w ∷ r)
     open-accepted c =
-        let all = some-cleared mark k n L J (f ++ taken-page m w ∷ r) (h .good) (h .clean) in
+        let all = some-cleared mark k (h .good .base-order) n (h .good .used-by) (f ++ taken-page m w ∷ r) (ordered mark m n L J (f ++ taken-page m w ∷ r) (h .good)) (h .good .keeps .count) (h .clean) in
         let l = leb-true 2 (count is-cleared (states (told mark (f ++ taken-page m w ∷ r)))) c in
         turns-map k was is (open-good mark m′ n L J f w r (h .good) worn a v (h .address) (h .room) (omega arith) place)
 
@@ -104,9 +105,9 @@ module _ (mark m′ n L : ℕ) (a v : ℕ) (J : List Setting) (two : 2 ≤ n) (w
   unfolding write-steps value
   write-turns F h fresh =
       let g = h .good in
-      let all = some-cleared mark k n L J F g (h .clean) in
+      let all = some-cleared mark k (g .base-order) n (g .used-by) F (ordered mark m n L J F g) (g .keeps .count) (h .clean) in
       let sp = g .spare in
-      let t = takes mark m F (g .keeps .whole) (λ z. omega arith) in
+      let t = takes mark m F (ordered mark m n L J F g .long) (λ z. omega arith) in
       let h′ = subst (Accepted mark k n L a v J) (t .form) h in
       let p′ : taken (told mark (t .front ++ taken-page m (t .first) ∷ t .rest)) ≡ length (t .front) = subst (λ (G : Pages). taken (told mark G) ≡ length (t .front)) (t .form) (t .place) in
       rw (journal-is mark m n L J F g, fresh)

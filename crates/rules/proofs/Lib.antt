@@ -6,7 +6,11 @@ pub mod Shape
 pub mod Cut
 pub mod Phases
 pub mod Plans
+pub mod Told
 pub mod Pages
 pub mod Settings
 pub mod Slots
 pub mod Stores
+pub mod Active
+pub mod Building
+pub mod Renewing

@@ -8,7 +8,6 @@ ghost use Rattle.rules.specs.Word.{word-steps};
 ghost use Rattle.rules.specs.Steps.{renew, renew-all};
 ghost use Rattle.rules.proofs.Plans.{AllAllowed};
 ghost use Rattle.words.specs.Read.{as-word};
-
 use words::Word;
 
 // Programs a word at its place in a page, first half first.

@@ -1,0 +1,123 @@
+-- The active page and the page that is taken, in any store whose used pages have different orders. Assumes nothing.
+use Prim.Native.Nat.{ℕ, zero, suc, _+_, _-_, _≤_, _<_}
+use mathlib.Core.Path.{_≡_, refl, sym, ap, ap₂, _∙_, subst}
+use mathlib.Core.Bool.{Bool, true, false}
+use mathlib.Core.List.{List, [], _∷_, _++_, map}
+use native.Mathlib.Omega.{arith}
+use lib.ListN.{length, length-map, replicate, length-replicate}
+use lib.Dec.{ltb}
+use borrow.Author.Tests.{ltb-true}
+use Rattle.rules.specs.Word.{Word}
+use Rattle.rules.specs.Page.{blank-word, is-wear, State, cleared, Page, page, state, slots}
+use Rattle.rules.specs.Store.{states, base, used, is-cleared, used-orders, greatest, active-order, active-index, active-slots, slots-at, is-active, index-of, used-pages, free-slot, count, least-worn, index}
+use Rattle.rules.specs.Steps.{unclean, taken, has-free-slot}
+use Rattle.rules.specs.Call.{among, repeats}
+use Rattle.rules.proofs.Cut.{AllLength}
+use Rattle.rules.proofs.Phases.{Pages}
+use Rattle.rules.proofs.Told.{told, Parted, parted, Headed, headed, length-amid}
+use Rattle.rules.proofs.Pages.{cleared-is}
+use Rattle.rules.proofs.Slots.{FreeAt, free-at}
+use Rattle.rules.proofs.Stores.{orders, orders-used, greatest-among, greatest-upto, Under, upto-under, ActiveAt, active-at, taken-at, slots-amid, count-all, count-used}
+
+-- A store whose used pages, of which there are some, have different orders: by its base order and those orders.
+pub record Ordered (mark k b : ℕ) (os : List ℕ) (F : Pages) : Type 0 where
+  pub long : AllLength k F
+  pub is-base : base (states (told mark F)) ≡ b
+  pub has-orders : orders (used-pages b (told mark F)) ≡ os
+  pub apart : repeats os ≡ false
+  pub some : 0 < length os
+
+-- the greatest of the orders in use
+greatest-is : (os : List ℕ) → 0 < length os → among (greatest os) os ≡ true
+greatest-is [] h = absurd (omega arith)
+greatest-is (o ∷ os) h = greatest-among o os
+
+module _ (mark k b : ℕ) (os : List ℕ) (F : Pages) (g : Ordered mark k b os F) where
+  pub active-is : active-order (states (told mark F)) ≡ greatest os
+  unfolding active-order
+  active-is =
+      ap (λ (x : ℕ). greatest (used-orders x (states (told mark F)))) (g .is-base) ∙ ap greatest (orders-used b (told mark F) ∙ g .has-orders)
+
+  -- the next order is above all in use
+  pub next-under : Under (active-order (states (told mark F)) + 1) os
+  next-under = rw active-is (upto-under (greatest os) os (greatest-upto os))
+
+  pub active : ActiveAt b (greatest os) (told mark F)
+  active =
+      active-at b (greatest os) (told mark F) (rw (g .has-orders) (greatest-upto os)) (rw (g .has-orders) (greatest-is os (g .some)))
+      (rw (g .has-orders) (g .apart))
+
+  pub at-active : Parted mark F (active .front) (active .page) (active .rest)
+  at-active = parted mark F (active .front) (active .page) (active .rest) (active .form)
+
+  pub active-place : active-index (states (told mark F)) ≡ length (at-active .front)
+  unfolding active-index
+  active-place =
+      ap₂ (λ (x y : ℕ). index-of (is-active x y) (states (told mark F))) (g .is-base) active-is ∙ active .place
+      ∙ sym (ap length (at-active .front-told)) ∙ length-map (at-active .front) (page mark)
+
+  pub slots-active : active-slots (told mark F) ≡ slots (at-active .here)
+  unfolding active-slots page
+  slots-active =
+      ap (λ (x : ℕ). slots-at x (told mark F)) (active-place ∙ sym (length-map (at-active .front) (page mark)) ∙ ap length (at-active .front-told))
+      ∙ ap (slots-at (length (active .front))) (active .form)
+      ∙ slots-amid (active .front) (active .page) (active .rest)
+      ∙ ap (λ (p : Page). p .slots) (sym (at-active .here-told))
+
+module _ (mark m b : ℕ) (os : List ℕ) (F : Pages) (g : Ordered mark (suc (suc (suc m))) b os F) where
+  -- the free slot of the active page
+  pub active-free : has-free-slot (told mark F) ≡ true → (hd : Headed m (at-active mark (suc (suc (suc m))) b os F g .here)) × FreeAt (hd .ws) × (free-slot (active-slots (told mark F)) ≡ free-slot (hd .ws))
+  unfolding has-free-slot slots
+  active-free free =
+      let at = at-active mark (suc (suc (suc m))) b os F g in
+      let hd = headed m (at .here) (length-amid (suc (suc (suc m))) (at .front) (at .here) (at .rest) (subst (AllLength (suc (suc (suc m)))) (at .form) (g .long))) in
+      let sl : active-slots (told mark F) ≡ hd .ws = slots-active mark (suc (suc (suc m))) b os F g ∙ ap slots (hd .form) in
+      (hd, free-at (hd .ws) (ltb-true (free-slot (hd .ws)) (length (hd .ws)) (rw sl at free)), ap free-slot sl)
+
+-- ---- the page that is taken
+
+-- a cleared page, with its wear word
+abbrev pub taken-page : (m : ℕ) → Word → List Word
+taken-page m w = w ∷ blank-word ∷ replicate (suc m) blank-word
+
+pub record Takes (mark m : ℕ) (F : Pages) : Type 0 where
+  pub front : Pages
+  pub first : Word
+  pub rest : Pages
+  pub form : F ≡ front ++ taken-page m first ∷ rest
+  pub place : taken (told mark F) ≡ length front
+  pub worn : is-wear mark first ≡ true
+
+pub takes : (mark m : ℕ) (F : Pages) → AllLength (suc (suc (suc m))) F → (count is-cleared (states (told mark F)) ≡ 0 → ⊥) → Takes mark m F
+unfolding taken index page
+takes mark m F long h =
+    let t = taken-at 0 (told mark F) h in
+    let p = parted mark F (t .front) (t .page) (t .rest) (t .form) in
+    let e : state mark (p .here) ≡ cleared (t .wear) = ap (λ (q : Page). q .state) (p .here-told) ∙ t .is-cleared in
+    let c = cleared-is mark (p .here) (t .wear) e in
+    let w = length-amid (suc (suc (suc m))) (p .front) (p .here) (p .rest) (subst (AllLength (suc (suc (suc m)))) (p .form) long) in
+    let l : suc (c .rest) ≡ suc (suc (suc m)) = sym (ap suc (length-replicate (c .rest) blank-word)) ∙ sym (ap length (c .form)) ∙ w in
+    let z : c .rest ≡ suc (suc m) = omega arith in
+    let d : 0 + length (t .front) ≡ length (p .front) = (let y = ap length (p .front-told) in let x = length-map (p .front) (page mark) in omega arith) in
+    record {
+      front = p .front;
+      first = c .first;
+      rest = p .rest;
+      form = p .form ∙ ap (λ (q : List Word). p .front ++ q ∷ p .rest) (c .form ∙ ap (λ (i : ℕ). c .first ∷ replicate i blank-word) z);
+      place = ap index (t .place) ∙ d;
+      worn = c .wear;
+    }
+
+-- a store all of whose pages are used or cleared has as many cleared ones as are not used
+pub some-cleared : (mark k b n : ℕ) (os : List ℕ) (F : Pages) → Ordered mark k b os F → length F ≡ n → count (unclean b) (states (told mark F)) ≡ 0 → length os + count is-cleared (states (told mark F)) ≡ n
+unfolding states
+some-cleared mark k b n os F g lf c =
+    let all = count-all b (states (told mark F)) in
+    let us = count-used b (told mark F) in
+    let os = ap length (g .has-orders) in
+    let ls : length (states (told mark F)) ≡ n = length-states (told mark F) ∙ length-map F (page mark) ∙ lf in
+    omega arith
+  where
+    length-states : (ps : List Page) → length (states ps) ≡ length ps
+    length-states [] = refl
+    length-states (p ∷ ps) = ap suc (length-states ps)

@@ -1,0 +1,115 @@
+-- Pages erased and given their wear words: what the pages are then, and that each step may be done. Assumes nothing.
+use Prim.Native.Nat.{ℕ, zero, suc, _+_, _≤_, _<_}
+use mathlib.Core.Path.{_≡_, refl, sym, ap, _∙_, subst}
+use mathlib.Core.Bool.{Bool, true, false, cond}
+use mathlib.Core.List.{List, [], _∷_, _++_, map}
+use native.Mathlib.Omega.{arith}
+use lib.ListN.{length, length-append, replicate}
+use lib.Seq.{append-snoc}
+use Rattle.rules.specs.Flash.{Step, erase}
+use Rattle.rules.specs.Word.{Word, wear-word, opening-word, word-steps}
+use Rattle.rules.specs.Page.{blank-word, State, Page, page, state, wear-in, opening-place}
+use Rattle.rules.specs.Steps.{renew, renew-all, format-steps, renewed-wear, add-steps, renewals}
+use Rattle.rules.proofs.Truth.{by-cases}
+use Rattle.rules.proofs.Words.{wear-sound, opening-sound}
+use Rattle.rules.proofs.Shape.{target, page-after, store-after}
+use Rattle.rules.proofs.Phases.{Pages, Through, Fits, end, step, store-run, store-run-append, through-append, after-amid, here-fits, word-through, word-run}
+use Rattle.rules.proofs.Building.{Any}
+
+-- a renewed page
+abbrev pub fresh : (mark k′ wear : ℕ) → List Word
+fresh mark k′ wear = wear-word mark wear ∷ replicate k′ blank-word
+
+-- the pages as renewed
+unfoldable pub renewed : (mark k′ : ℕ) → (ℕ → State → Bool) → ℕ → Pages → Pages
+renewed mark k′ picks i [] = []
+renewed mark k′ picks i (pg ∷ F) = cond (picks i (state mark pg)) (fresh mark k′ (renewed-wear (wear-in mark pg))) pg ∷ renewed mark k′ picks (suc i) F
+
+pub next-length : (f : Pages) (qg : List Word) → length (f ++ qg ∷ []) ≡ suc (length f)
+next-length f qg = let e = length-append f (qg ∷ []) in omega arith
+
+module _ (mark k′ : ℕ) (f : Pages) (pg : List Word) (r : Pages) (wear : ℕ) where
+  pub erased : store-after (suc k′) (erase (length f)) (f ++ pg ∷ r) ≡ f ++ replicate (suc k′) blank-word ∷ r
+  unfolding target page-after
+  erased = after-amid (suc k′) f pg r (erase (length f)) refl
+
+  pub renew-run : store-run (suc k′) (renew mark (length f) wear) (f ++ pg ∷ r) ≡ f ++ fresh mark k′ wear ∷ r
+  unfolding renew store-run
+  renew-run =
+      ap (store-run (suc k′) (word-steps (length f) 0 (wear-word mark wear))) erased
+      ∙ word-run (suc k′) f r [] (replicate k′ blank-word) (wear-word mark wear)
+
+module _ (mark k′ : ℕ) (picks : ℕ → State → Bool) where
+  -- the steps for the pages from the i-th on
+  abbrev pub rest-steps : ℕ → Pages → List Step
+  rest-steps i F = renewals mark picks i (map (page mark) F)
+
+  onward : (f : Pages) (qg : List Word) (F : Pages)
+      → store-run (suc k′) (rest-steps (length (f ++ qg ∷ [])) F) ((f ++ qg ∷ []) ++ F) ≡ (f ++ qg ∷ []) ++ renewed mark k′ picks (length (f ++ qg ∷ [])) F
+      → store-run (suc k′) (rest-steps (suc (length f)) F) (f ++ qg ∷ F) ≡ f ++ qg ∷ renewed mark k′ picks (suc (length f)) F
+  onward f qg F h = rw (next-length f qg, append-snoc f qg F, append-snoc f qg (renewed mark k′ picks (suc (length f)) F)) at h
+
+  pub renewals-run : (f F : Pages) → store-run (suc k′) (rest-steps (length f) F) (f ++ F) ≡ f ++ renewed mark k′ picks (length f) F
+  unfolding renewals renewed add-steps page store-run
+  renewals-run f [] = refl
+  renewals-run f (pg ∷ F) =
+      by-cases (picks (length f) (state mark pg))
+      (λ t.
+      let w = renewed-wear (wear-in mark pg) in
+      rw t
+      (store-run-append (suc k′) (renew mark (length f) w) (rest-steps (suc (length f)) F) (f ++ pg ∷ F)
+      ∙ ap (store-run (suc k′) (rest-steps (suc (length f)) F)) (renew-run mark k′ f pg F w)
+      ∙ onward f (fresh mark k′ w) F (renewals-run (f ++ fresh mark k′ w ∷ []) F)))
+      (λ t. rw t (onward f pg F (renewals-run (f ++ pg ∷ []) F)))
+
+-- ---- format, of whatever stood there
+
+module _ (mark k′ : ℕ) where
+  renew-any : (f : Pages) (pg : List Word) (r : Pages) (wear : ℕ) → Through (suc k′) Any (renew mark (length f) wear) (f ++ pg ∷ r)
+  unfolding renew Fits
+  renew-any f pg r wear =
+      let rest = word-through (suc k′) f r [] (replicate k′ blank-word) Any (wear-word mark wear) (wear-sound mark wear) (λ v l. tt) in
+      step (here-fits (suc k′) f pg r) tt (λ G x. tt) (subst (Through (suc k′) Any _) (sym (erased mark k′ f pg r wear)) rest)
+
+  abbrev all-fresh : Pages → Pages
+  all-fresh r = replicate (length r) (fresh mark k′ 1)
+
+  renew-all-run : (f r : Pages) → store-run (suc k′) (renew-all mark (length f) (length r)) (f ++ r) ≡ f ++ all-fresh r
+  unfolding renew-all store-run
+  renew-all-run f [] = refl
+  renew-all-run f (pg ∷ r) =
+      let q = fresh mark k′ 1 in
+      store-run-append (suc k′) (renew mark (length f) 1) (renew-all mark (suc (length f)) (length r)) (f ++ pg ∷ r)
+      ∙ ap (store-run (suc k′) (renew-all mark (suc (length f)) (length r))) (renew-run mark k′ f pg r 1)
+      ∙ (rw (next-length f q, append-snoc f q r, append-snoc f q (all-fresh r)) at (renew-all-run (f ++ q ∷ []) r))
+
+  renew-all-through : (f r : Pages) → Through (suc k′) Any (renew-all mark (length f) (length r)) (f ++ r)
+  unfolding renew-all
+  renew-all-through f [] = end tt
+  renew-all-through f (pg ∷ r) =
+      let q = fresh mark k′ 1 in
+      let later = renew-all mark (suc (length f)) (length r) in
+      through-append (suc k′) later (renew-any f pg r 1)
+      (subst (Through (suc k′) Any later) (sym (renew-run mark k′ f pg r 1)) (rw (next-length f q, append-snoc f q r) at (renew-all-through (f ++ q ∷ []) r)))
+
+module _ (mark m : ℕ) where
+  -- page 0, and the others
+  abbrev pub opened : List Word
+  opened = wear-word mark 1 ∷ opening-word 1 0 ∷ replicate (suc m) blank-word
+
+  abbrev pub formatted : ℕ → Pages
+  formatted n′ = opened ∷ replicate n′ (fresh mark (suc (suc m)) 1)
+
+  pub format-run : (pg : List Word) (r : Pages) → store-run (suc (suc (suc m))) (format-steps mark (suc (length r))) (pg ∷ r) ≡ formatted (length r)
+  unfolding format-steps
+  format-run pg r =
+      store-run-append (suc (suc (suc m))) (renew-all mark 0 (suc (length r))) (word-steps 0 opening-place (opening-word 1 0)) (pg ∷ r)
+      ∙ ap (store-run (suc (suc (suc m))) (word-steps 0 opening-place (opening-word 1 0))) (renew-all-run mark (suc (suc m)) [] (pg ∷ r))
+      ∙ word-run (suc (suc (suc m))) [] (replicate (length r) (fresh mark (suc (suc m)) 1)) (wear-word mark 1 ∷ []) (replicate (suc m) blank-word) (opening-word 1 0)
+
+  pub format-through : (pg : List Word) (r : Pages) → Through (suc (suc (suc m))) Any (format-steps mark (suc (length r))) (pg ∷ r)
+  unfolding format-steps
+  format-through pg r =
+      through-append (suc (suc (suc m))) (word-steps 0 opening-place (opening-word 1 0)) (renew-all-through mark (suc (suc m)) [] (pg ∷ r))
+      (subst (Through (suc (suc (suc m))) Any (word-steps 0 opening-place (opening-word 1 0))) (sym (renew-all-run mark (suc (suc m)) [] (pg ∷ r)))
+      (word-through (suc (suc (suc m))) [] (replicate (length r) (fresh mark (suc (suc m)) 1)) (wear-word mark 1 ∷ []) (replicate (suc m) blank-word) Any (opening-word 1 0) (opening-sound 1 0) (λ v l. tt)))
