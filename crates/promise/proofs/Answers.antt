@@ -12,8 +12,8 @@ use Rattle.rules.specs.Page.{State, cleared, open₁, open₂, receiving, bad, 
 use Rattle.rules.specs.Store.{states, base, used, is-open, used-orders, Setting, last-of, settings, held, value, put-all, count}
 use Rattle.rules.specs.Steps.{unclean, is-value}
 use Rattle.rules.specs.Call.{page-size, page-mark, page-count, pages, cut, wrong-size, no-store, repeats, all-used, damaged, is-unclean, wrong-address, is-held, no-room, order-end, then, store-number, write-number, blank-read-number, read-number, Reading, accepted, or-value, read, OK, UNCLEAN, ADDRESS, NO-ROOM, ORDER-END, NOT-HELD, held-limit}
-use Rattle.rules.proofs.Truth.{by-cases, is-false, not-both}
-use Rattle.rules.proofs.Stores.{orders-used, count-used, count-all}
+use Rattle.rules.proofs.Truth.{failed, by-cases, is-false, not-both}
+use Rattle.rules.proofs.Stores.{length-states, orders-used, count-used, count-all}
 use Rattle.rules.proofs.Phases.{Pages}
 use Rattle.rules.proofs.Told.{told}
 use Rattle.promise.proofs.Keeps.{Keeps}
@@ -38,11 +38,6 @@ count-open b (s ∷ ss) = let rest = count-open b ss in at-most (used b s) (is-o
     at-most true false d l = not-both (d refl) refl
     at-most false true d l = omega arith
     at-most false false d l = omega arith
-
-length-states : (ps : List Page) → length (states ps) ≡ length ps
-unfolding states
-length-states [] = refl
-length-states (p ∷ ps) = ap suc (length-states ps)
 
 -- the table's rows 2 and 3, of pages
 module _ (mark m n L : ℕ) (J : List Setting) (F : Pages) (g : Good mark (suc (suc (suc m))) n L J F) where
@@ -131,11 +126,6 @@ unfolding read read-number blank-read-number answer then
 read-is J i h a = rw (value-here J i h a, store-ok J i h)
 
 -- ---- what the number of a write tells
-
--- a test that gives a number other than 0 has failed, if the number is 0
-failed : (t : Bool) (n rest : ℕ) → cond t (suc n) rest ≡ 0 → (t ≡ false) × (rest ≡ 0)
-failed true n rest h = absurd (let e : suc n ≡ 0 = h in omega arith)
-failed false n rest h = (refl, h)
 
 module _ (J : List Setting) (i : List ℕ) (h : Kept-well J i) (a v : ℕ) (ok : write-number a v i ≡ OK) where
   after-store : cond (is-unclean (states (pages i))) UNCLEAN (cond (wrong-address a) ADDRESS (cond (is-value (value a (pages i)) v) OK (cond (no-room a (pages i)) NO-ROOM (cond (order-end (pages i)) ORDER-END OK)))) ≡ 0

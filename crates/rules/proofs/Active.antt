@@ -17,7 +17,7 @@ use Rattle.rules.proofs.Phases.{Pages}
 use Rattle.rules.proofs.Told.{told, Parted, parted, Headed, headed, length-amid}
 use Rattle.rules.proofs.Pages.{cleared-is}
 use Rattle.rules.proofs.Slots.{FreeAt, free-at}
-use Rattle.rules.proofs.Stores.{orders, orders-used, greatest-among, greatest-upto, Under, upto-under, ActiveAt, active-at, taken-at, slots-amid, count-all, count-used}
+use Rattle.rules.proofs.Stores.{length-states, orders, orders-used, greatest-among, greatest-upto, Under, upto-under, ActiveAt, active-at, taken-at, slots-amid, count-all, count-used}
 
 -- A store whose used pages, of which there are some, have different orders: by its base order and those orders.
 pub record Ordered (mark k b : ℕ) (os : List ℕ) (F : Pages) : Type 0 where
@@ -110,14 +110,9 @@ takes mark m F long h =
 
 -- a store all of whose pages are used or cleared has as many cleared ones as are not used
 pub some-cleared : (mark k b n : ℕ) (os : List ℕ) (F : Pages) → Ordered mark k b os F → length F ≡ n → count (unclean b) (states (told mark F)) ≡ 0 → length os + count is-cleared (states (told mark F)) ≡ n
-unfolding states
 some-cleared mark k b n os F g lf c =
     let all = count-all b (states (told mark F)) in
     let us = count-used b (told mark F) in
     let os = ap length (g .has-orders) in
     let ls : length (states (told mark F)) ≡ n = length-states (told mark F) ∙ length-map F (page mark) ∙ lf in
     omega arith
-  where
-    length-states : (ps : List Page) → length (states ps) ≡ length ps
-    length-states [] = refl
-    length-states (p ∷ ps) = ap suc (length-states ps)

@@ -14,3 +14,4 @@ pub mod Stores
 pub mod Active
 pub mod Building
 pub mod Renewing
+pub mod Ready

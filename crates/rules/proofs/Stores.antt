@@ -17,6 +17,11 @@ use Rattle.rules.proofs.Pages.{Fades}
 
 -- ---- one part after the other
 
+pub length-states : (ps : List Page) → length (states ps) ≡ length ps
+unfolding states
+length-states [] = refl
+length-states (p ∷ ps) = ap suc (length-states ps)
+
 pub states-append : (xs ys : List Page) → states (xs ++ ys) ≡ states xs ++ states ys
 unfolding states
 states-append [] ys = refl
