@@ -1,0 +1,3 @@
+-- Laws of the code's own, for its proofs and for the crates above.
+pub mod Header
+pub mod Scan

@@ -1,0 +1,141 @@
+// The state of one page: 01, "Page states". A page is lent as the part of the image that it is.
+use words::Word;
+ghost use mathlib.Core.Path.{_≡_};
+ghost use Prim.Native.Nat.{_/_, _≤_, _<_};
+ghost use lib.ListN.{length};
+ghost use Rattle.rules.specs.Word.{words};
+ghost use Rattle.rules.specs.Page.{is-wear, wear-in, is-opening, order-in, is-done, all-blank, state-after-wear, state};
+ghost use Rattle.rules.specs.Store.{order, free-slot};
+ghost use Rattle.rules.specs.Steps.{renewed-wear};
+ghost use Rattle.words.specs.Read.{as-word};
+ghost use Rattle.pages.specs.Read.{as-state};
+
+// A cleared page has its wear, an open one of kind 1 or 2 its order.
+pub enum State {
+    Cleared(u16),
+    Open1(u32),
+    Open2(u32),
+    Receiving,
+    Bad,
+}
+
+// "sound wear word with third byte 1": the byte is the mark. Here and below the cheap test comes first.
+pub fn is_wear(w: Word, mark: u8) -> bool
+    ensures { λ r. ⌜ r ≡ is-wear mark (as-word w) ⌝ }
+{
+    if w.c != mark {
+        return false;
+    }
+    words::is_sound(w)
+}
+
+// "a sound opening word of kind 1", "of kind 2"
+pub fn is_opening(w: Word, kind: u32) -> bool
+    ensures { λ r. ⌜ r ≡ is-opening kind (as-word w) ⌝ }
+{
+    if words::low24(w) % 4 != kind {
+        return false;
+    }
+    words::is_sound(w)
+}
+
+// The order that an opening word gives.
+pub fn order_in(w: Word) -> u32
+    ensures { λ r. ⌜ r ≡ order-in (as-word w) ⌝ }
+    ensures { λ r. ⌜ r < 4194304 ⌝ }
+{
+    words::low24(w) / 4
+}
+
+// "its matching done word"
+pub fn is_done(w: Word, order: u32) -> bool
+    requires { ⌜ order < 4194304 ⌝ }
+    ensures { λ r. ⌜ r ≡ is-done order (as-word w) ⌝ }
+{
+    if words::low24(w) != order * 4 + 3 {
+        return false;
+    }
+    words::is_sound(w)
+}
+
+// Whether every word of the bytes is blank.
+pub fn all_blank(s: &[u8]) -> bool
+    ensures { λ r. ⌜ r ≡ all-blank (words (now (s .entry))) ⌝ }
+{
+    let mut at = 0;
+    while at + 4 <= s.len() {
+        if !words::is_blank(words::word_at(s, at)) {
+            return false;
+        }
+        at += 4;
+    }
+    true
+}
+
+// The state of a page that has a sound wear word: what its other words make of it.
+fn after_wear(page: &[u8], wear: u16) -> State
+    requires { ⌜ 12 ≤ length (now page) ⌝ }
+    ensures { λ r. ⌜ as-state r ≡ state-after-wear (words (now (page .entry))) wear ⌝ }
+    ensures { λ r. ⌜ order (as-state r) < 4194304 ⌝ }
+{
+    let opening = words::word_at(page, 4);
+    let order = order_in(opening);
+    if is_opening(opening, 1) {
+        return State::Open1(order);
+    }
+    if is_opening(opening, 2) {
+        if is_done(words::word_at(page, 8), order) {
+            return State::Open2(order);
+        }
+        return State::Receiving;
+    }
+    if all_blank(&page[4..]) {
+        return State::Cleared(wear);
+    }
+    State::Bad
+}
+
+pub fn state_of(page: &[u8], mark: u8) -> State
+    requires { ⌜ 12 ≤ length (now page) ⌝ }
+    ensures { λ r. ⌜ as-state r ≡ state mark (words (now (page .entry))) ⌝ }
+    ensures { λ r. ⌜ order (as-state r) < 4194304 ⌝ }
+{
+    let wear = words::word_at(page, 0);
+    if is_wear(wear, mark) {
+        return after_wear(page, words::low16(wear));
+    }
+    State::Bad
+}
+
+// "The new wear is one more than that of the sound wear word read before the erase, at most 65,535; a page without such a
+// word gets 1."
+pub fn renewed_wear(page: &[u8], mark: u8) -> u16
+    requires { ⌜ 4 ≤ length (now page) ⌝ }
+    ensures { λ r. ⌜ r ≡ renewed-wear (wear-in mark (words (now (page .entry)))) ⌝ }
+{
+    let w = words::word_at(page, 0);
+    if !is_wear(w, mark) {
+        return 1;
+    }
+    let wear = words::low16(w);
+    if wear == 65535 {
+        return 65535;
+    }
+    wear + 1
+}
+
+// "The free slot is the one after the last slot that isn't blank": how many slots come before it.
+pub fn free_slot(slots: &[u8]) -> usize
+    ensures { λ r. ⌜ r ≡ free-slot (words (now (slots .entry))) ⌝ }
+    ensures { λ r. ⌜ r ≤ length (now (slots .entry)) / 4 ⌝ }
+{
+    let mut n = slots.len() / 4;
+    while 0 < n {
+        let last = n - 1;
+        if !words::is_blank(words::word_at(slots, last * 4)) {
+            return n;
+        }
+        n = last;
+    }
+    0
+}
