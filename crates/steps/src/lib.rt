@@ -8,6 +8,7 @@ ghost use Rattle.rules.specs.Word.{word-steps};
 ghost use Rattle.rules.specs.Steps.{renew, renew-all};
 ghost use Rattle.rules.proofs.Plans.{AllAllowed};
 ghost use Rattle.words.specs.Read.{as-word};
+ghost use Rattle.steps.specs.Picked.{wear-at, picked-steps};
 use words::Word;
 
 // Programs a word at its place in a page, first half first.
@@ -52,4 +53,32 @@ pub fn renew_all(image: &mut [u8], mark: u8, n: usize)
         renew(image, i, mark, 1, 3);
         i += 1;
     }
+}
+
+// Renews a page "as recovery does": its new wear follows from its own.
+pub fn recycle(image: &mut [u8], page: usize, mark: u8, left: u16) -> u16
+    requires { ⌜ (page < 32) × (page * 1024 + 1024 ≤ length (now image)) ⌝ }
+    ensures { λ r. ⌜ r ≡ left - 3 ⌝ }
+    ensures { λ r. ⌜ now (image .exit) ≡ run 1024 (take left (renew mark page (wear-at mark page (now (image .entry))))) (now (image .entry)) ⌝ }
+{
+    let at = page * 1024;
+    let wear = pages::renewed_wear(&image[at..at + 1024], mark);
+    renew(image, page, mark, wear, left)
+}
+
+// Recycles the picked pages among the first n, in index order.
+pub fn recycle_picked(image: &mut [u8], n: usize, picks: [bool; 32], mark: u8, left: u16) -> u16
+    requires { ⌜ (n ≤ 32) × (n * 1024 ≤ length (now image)) ⌝ }
+    ensures { λ r. ⌜ r ≡ left - length (picked-steps mark n picks (now (image .entry))) ⌝ }
+    ensures { λ r. ⌜ now (image .exit) ≡ run 1024 (take left (picked-steps mark n picks (now (image .entry)))) (now (image .entry)) ⌝ }
+{
+    let mut rest = left;
+    let mut i = 0;
+    while i < n {
+        if picks[i] {
+            rest = recycle(image, i, mark, rest);
+        }
+        i += 1;
+    }
+    rest
 }
