@@ -1,15 +1,11 @@
 -- 01, "Examples", those marked P: a single table, under the one statement at its end.
-use Prim.Native.Nat.{ℕ, _+_}
+use Prim.Native.Nat.{ℕ}
 use mathlib.Core.Bool.{Bool, true, false, _&&_}
-use mathlib.Core.List.{List, [], _∷_, _++_}
+use mathlib.Core.List.{List, [], _∷_}
 use lib.ListN.{replicate}
 use lib.Dec.{T, eqb}
-use Rattle.rules.specs.Flash.{half-offset, offset, aim, after, run}
-use Rattle.rules.specs.Word.{Word, word, zeros, check, sound, blank, Condition, Sound, Blank, Spoiled, condition, low16, low24, third, checked, wear-word, number-word, opening-word, done-word, record-word, slot-condition, word-steps, words}
-use Rattle.rules.specs.Page.{wear-part, opening-part, done-part, slots, is-wear, wear-in, is-opening, order-in, is-done, all-blank, state-after-wear, state-by, state, page}
-use Rattle.rules.specs.Store.{states, order₂, base, used, is-cleared, is-open, order, add-order, used-orders, greatest, active-order, is-active, index-of, active-index, add-page, used-pages, insert, oldest-first, add-record, records, all-records, journal, or-else, last-of, value, put, put-all, settings, held, past, free-slot, slots-at, active-slots, count, better, offered, least-worn, index}
-use Rattle.rules.specs.Steps.{renew, renew-all, format-steps, renewed-wear, add-steps, renewals, unclean, recovery-steps, append-steps, taken, open-steps, but, copies, copy-steps, move-steps, has-free-slot, is-value, write-steps}
-use Rattle.rules.specs.Call.{cut, page-count, pages, wrong-size, no-store, among, repeats, all-used, damaged, is-unclean, wrong-address, is-held, no-room, order-end, store-number, then, write-number, blank-read-number, read-number, Stepped, Reading, accepted, format, stepped, recover, write, or-value, read, not-held-value, blank-value, blank-read, digits, lookup}
+use Rattle.rules.specs.Word.{Word, word, Condition, Sound, Blank, Spoiled, condition, wear-word, opening-word, done-word, record-word, slot-condition}
+use Rattle.rules.specs.Call.{Stepped, Reading, format, recover, write, read, blank-read, lookup}
 
 -- a row: what the rules give, and what 01 prints
 pub data Row : Type 0 where
@@ -50,12 +46,9 @@ yes-no false = 0
 unfoldable pub did : Stepped → List ℕ
 did r = r .number ∷ r .steps ∷ yes-no (r .finished) ∷ []
 
--- the images that the examples speak of
+-- bytes of 255
 abbrev pub empty-flash : ℕ → List ℕ
 empty-flash n = replicate n 0xFF
-
-unfoldable pub two-pages : List ℕ
-two-pages = format (empty-flash 2048) .image
 
 -- the numbers that all calls give, as a call of each on an image
 unfoldable pub numbers : List ℕ → List ℕ
@@ -63,8 +56,9 @@ numbers i =
     format i .number ∷ recover 65535 i .number ∷ write 0 0 65535 i .number ∷ read 0 i .number ∷ blank-read 0 i .number
     ∷ lookup i .number ∷ []
 
-unfoldable pub table : List Row
-table =
+-- the rows; two-pages is the image of two formatted pages
+unfoldable pub rows : (two-pages : List ℕ) → List Row
+rows two-pages =
     -- 1. Record (5, 65)
     row (bytes (record-word 5 65)) (0x05 ∷ 0x00 ∷ 0x41 ∷ 0x14 ∷ [])
     ∷ row (told (condition (word 0x05 0x00 0x41 0x14))) SOUND
@@ -100,6 +94,9 @@ table =
     ∷ row (said (read 5 (write 5 65 2 two-pages .image))) (0 ∷ 65 ∷ [])
     ∷ []
 
-pub examples : T (holds table)
-unfolding same holds bytes told said yes-no did two-pages numbers table offset aim after run zeros check sound blank condition low16 low24 third checked wear-word number-word opening-word done-word record-word slot-condition word-steps words wear-part opening-part done-part slots is-wear wear-in is-opening order-in is-done all-blank state-after-wear state-by state page states order₂ base used is-cleared is-open order add-order used-orders greatest active-order is-active index-of active-index add-page used-pages insert oldest-first add-record records all-records journal or-else last-of value put put-all settings held past free-slot slots-at active-slots count better offered least-worn index renew renew-all format-steps renewed-wear add-steps renewals unclean recovery-steps append-steps taken open-steps but copies copy-steps move-steps has-free-slot is-value write-steps cut page-count pages wrong-size no-store among repeats all-used damaged is-unclean wrong-address is-held no-room order-end store-number then write-number blank-read-number read-number accepted format stepped recover write or-value read not-held-value blank-value blank-read digits lookup
-examples = tt
+unfoldable pub table : List Row
+table = rows (format (empty-flash 2048) .image)
+
+-- the statement: every row is as 01 prints it
+abbrev pub the-examples-hold : Type 0
+the-examples-hold = T (holds table)

@@ -55,10 +55,10 @@ nothing e (failing x) = absurd (nil≢cons (sym e))
 nothing e (later x) = absurd (nil≢cons (sym e))
 
 -- the journals before and after a write, as what addresses have
-record Says (t : ℕ → Option ℕ) (i : List ℕ) : Type 0 where
-  journal : List Setting
-  kept : Kept-well journal i
-  values : (x : ℕ) → last-of x journal ≡ t x
+pub record Says (t : ℕ → Option ℕ) (i : List ℕ) : Type 0 where
+  pub journal : List Setting
+  pub kept : Kept-well journal i
+  pub values : (x : ℕ) → last-of x journal ≡ t x
 
 says-read : (t : ℕ → Option ℕ) {i k : List ℕ} → Says t i → Recoveries i k → (x : ℕ) → read x k ≡ answer x (t x)
 says-read t {i} {k} s r x = read-is (s .journal) k (recoveries-kept (s .journal) (s .kept) r) x ∙ ap (answer x) (s .values x)
@@ -91,7 +91,7 @@ module _ (J : List Setting) (i : List ℕ) (h : Kept-well J i) (a v : ℕ) (ok :
       record { journal = p .0; kept = record { count = n; sized = l; least = h .least; most = h .most; good = p .1 }; values = p .2 }
 
   -- what power may leave of a write
-  either : {c : ℕ} {j : List ℕ} → Left page-size c (write-of a v i) i j → Says (old-values J) j ⊎ Says (new-values J a v) j
+  pub either : {c : ℕ} {j : List ℕ} → Left page-size c (write-of a v i) i j → Says (old-values J) j ⊎ Says (new-values J a v) j
   either {j = j} l =
       by-cases (is-value (last-of a J) v)
       (λ e. inl (record { journal = J; kept = subst (Kept-well J) (nothing (no-steps e) l .0) h; values = λ x. refl }))

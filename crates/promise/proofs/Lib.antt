@@ -11,3 +11,4 @@ pub mod Answers
 pub mod Format
 pub mod Clean
 pub mod Kept
+pub mod Corollaries

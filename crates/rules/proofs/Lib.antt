@@ -15,3 +15,5 @@ pub mod Active
 pub mod Building
 pub mod Renewing
 pub mod Ready
+pub mod Laid
+pub mod Moves

@@ -54,6 +54,7 @@ renew-behind mark p wear n i = steps n (wear-word mark wear)
     none : (n : ℕ) (j : List ℕ) → run 1024 (take n []) j ≡ j
     none zero j = refl
     none (suc n) j = refl
+
     steps : (n : ℕ) (w : Word) → drop (p * 1024 + 1024) (run 1024 (take n (erase p ∷ word-steps p 0 w)) i) ≡ drop (p * 1024 + 1024) i
     steps zero (word a b c d) = refl
     steps (suc zero) (word a b c d) = behind-erase p i
@@ -165,8 +166,9 @@ module _ (mark n left : ℕ) (picks : List Bool) (i : List ℕ) where
           long = l ∙ h .long;
           is-left = rw e (omega arith);
           is-image = rw e (q′ ∙ ap (λ (x : ℕ). run 1024 (take x (renew mark j w)) image) (h .is-left) ∙ ap (run 1024 (take (left - length (upto mark n picks i j)) (renew mark j w))) (h .is-image)
-            ∙ sym (cut-run 1024 left (upto mark n picks i j) (renew mark j w) i));
-          behind = sym (further image′) ∙ ap (drop (j * 1024 + 1024)) q′ ∙ renew-behind mark j w rest image ∙ behind-next ∙ further i }
+              ∙ sym (cut-run 1024 left (upto mark n picks i j) (renew mark j w) i));
+          behind = sym (further image′) ∙ ap (drop (j * 1024 + 1024)) q′ ∙ renew-behind mark j w rest image ∙ behind-next ∙ further i;
+        }
 
 pub passed-all : (mark n left : ℕ) (picks : List Bool) (i : List ℕ) (j : ℕ) (image : List ℕ) (rest : ℕ) → Passed mark n left picks i j image rest → j ≡ n → (rest ≡ left - length (picked-steps mark n picks i)) × (image ≡ run 1024 (take left (picked-steps mark n picks i)) i)
 passed-all mark n left picks i j image rest h e =

@@ -1,0 +1,60 @@
+-- The order of a move: nothing is erased until the done word is programmed. Assumes nothing.
+use Prim.Native.Nat.{ℕ, suc, _+_}
+use mathlib.Core.Path.{_≡_, refl, sym, ap, _∙_}
+use mathlib.Core.Bool.{Bool, not}
+use mathlib.Core.List.{List, [], _∷_, _++_, append-nil, append-assoc}
+use lib.Dec.{eqb}
+use Rattle.rules.specs.Flash.{Step, program, erase}
+use Rattle.rules.specs.Word.{Word, word, opening-word, done-word, record-word, word-steps}
+use Rattle.rules.specs.Page.{State, Page, opening-place, done-place, slot-place}
+use Rattle.rules.specs.Store.{states, active-order, Setting, setting}
+use Rattle.rules.specs.Steps.{renew, add-steps, renewals, taken, copies, copy-steps, move-steps}
+use Rattle.rules.proofs.Truth.{by-cases}
+
+-- the steps before the first erase
+unfoldable pub until-erase : List Step → List Step
+until-erase [] = []
+until-erase (program p w h low high ∷ ss) = program p w h low high ∷ until-erase ss
+until-erase (erase p ∷ ss) = []
+
+-- the steps that make the new page: its opening word, the copies, its done word
+unfoldable pub making : (address value : ℕ) → List Page → List Step
+making a v ps =
+    word-steps (taken ps) opening-place (opening-word 2 (active-order (states ps) + 1))
+    ++ copy-steps (taken ps) 0 (copies a v ps)
+    ++ word-steps (taken ps) done-place (done-word (active-order (states ps) + 1))
+
+-- a list of steps without an erase
+abbrev NoErase : List Step → Type 0
+NoErase xs = (ys : List Step) → until-erase (xs ++ ys) ≡ xs ++ until-erase ys
+
+none-then : (xs ys : List Step) → NoErase xs → NoErase ys → NoErase (xs ++ ys)
+none-then xs ys p q zs = ap until-erase (append-assoc xs ys zs) ∙ p (ys ++ zs) ∙ ap (λ (ss : List Step). xs ++ ss) (q zs) ∙ sym (append-assoc xs ys (until-erase zs))
+
+word-none : (p at : ℕ) (w : Word) → NoErase (word-steps p at w)
+unfolding until-erase word-steps
+word-none p at (word a b c d) ys = refl
+
+copies-none : (p k : ℕ) (rs : List Setting) → NoErase (copy-steps p k rs)
+unfolding copy-steps
+copies-none p k [] = λ ys. refl
+copies-none p k (setting a v ∷ rs) = none-then (word-steps p (slot-place k) (record-word a v)) (copy-steps p (suc k) rs) (word-none p (slot-place k) (record-word a v)) (copies-none p (suc k) rs)
+
+-- pages are renewed by erasing them first
+renewals-erase : (mark : ℕ) (picks : ℕ → State → Bool) (k : ℕ) (ps : List Page) → until-erase (renewals mark picks k ps) ≡ []
+unfolding until-erase renewals add-steps renew
+renewals-erase mark picks k [] = refl
+renewals-erase mark picks k (p ∷ ps) = by-cases (picks k (p .state)) (λ e. rw e) (λ e. rw e (renewals-erase mark picks (suc k) ps))
+
+pub done-before-erase : (mark a v : ℕ) (ps : List Page) → until-erase (move-steps mark a v ps) ≡ making a v ps
+unfolding move-steps making
+done-before-erase mark a v ps =
+    let t = taken ps in
+    let o = active-order (states ps) + 1 in
+    let opening = word-steps t opening-place (opening-word 2 o) in
+    let copied = copy-steps t 0 (copies a v ps) in
+    let done = word-steps t done-place (done-word o) in
+    let made = none-then (opening ++ copied) done (none-then opening copied (word-none t opening-place (opening-word 2 o)) (copies-none t 0 (copies a v ps))) (word-none t done-place (done-word o)) in
+    made (renewals mark (λ k s. not (eqb k t)) 0 ps)
+    ∙ ap (λ (ss : List Step). opening ++ copied ++ done ++ ss) (renewals-erase mark (λ k s. not (eqb k t)) 0 ps)
+    ∙ append-nil (opening ++ copied ++ done)
