@@ -15,5 +15,6 @@ pub mod Active
 pub mod Building
 pub mod Renewing
 pub mod Ready
+pub mod Answers
 pub mod Laid
 pub mod Moves

@@ -1,0 +1,140 @@
+-- What each call answers, test by test: the laws that the calls in code cite. Assumes nothing.
+use Prim.Native.Nat.{ℕ, zero, suc, _+_, _≤_, _<_}
+use mathlib.Core.Path.{_≡_, refl, sym, ap, _∙_, subst}
+use mathlib.Core.Bool.{Bool, true, false, cond, not, _&&_, _||_}
+use mathlib.Core.List.{List, [], _∷_}
+use mathlib.Core.Option.{Option, none, some}
+use native.Mathlib.Omega.{arith}
+use lib.ListN.{length, take}
+use lib.Dec.{eqb, leb, ltb}
+use borrow.Author.Tests.{le-leb, lt-leb, eq-eqb, ne-eqb}
+use Rattle.rules.specs.Flash.{Step, run}
+use Rattle.rules.specs.Store.{states, value, last-of}
+use Rattle.rules.specs.Steps.{format-steps, recovery-steps, write-steps, is-value}
+use Rattle.rules.specs.Call.{page-size, page-mark, page-count, pages, wrong-size, store-number, then, write-number, blank-read-number, read-number, is-unclean, wrong-address, is-held, no-room, order-end, accepted, Formatted, format, Stepped, stepped, recover, write, Reading, read, not-held-value, or-value, blank-value, blank-read, digits, among, Pairing, lookup, OK, SIZE, ADDRESS, NOT-HELD, UNCLEAN, NO-ROOM, ORDER-END}
+
+-- ---- numbers
+
+not-accepted : (n : ℕ) → (n ≡ 0 → ⊥) → accepted n ≡ false
+unfolding accepted
+not-accepted n h = ne-eqb n 0 h
+
+then-refused : (n next : ℕ) → (n ≡ 0 → ⊥) → then n next ≡ n
+unfolding then
+then-refused zero next h = absurd (h refl)
+then-refused (suc n) next h = refl
+
+then-ok : (n next : ℕ) → n ≡ 0 → then n next ≡ next
+unfolding then
+then-ok n next e = rw e
+
+pub last-address : (a : ℕ) → a ≡ 65535 → wrong-address a ≡ true
+unfolding wrong-address
+last-address a e = le-leb 65535 a (omega arith)
+
+pub other-address : (a : ℕ) → a < 65535 → wrong-address a ≡ false
+unfolding wrong-address
+other-address a l = lt-leb 65535 a l
+
+-- ---- format
+
+pub format-refused : (i : List ℕ) → wrong-size i ≡ true → format i ≡ record { number = SIZE; image = i }
+unfolding format
+format-refused i w = rw w
+
+pub format-done : (i : List ℕ) → wrong-size i ≡ false → format i ≡ record { number = OK; image = run page-size (format-steps page-mark (page-count i)) i }
+unfolding format
+format-done i w = rw w
+
+-- ---- read
+
+module _ (i : List ℕ) (a : ℕ) where
+  pub read-refused : (store-number i ≡ 0 → ⊥) → read a i ≡ record { number = store-number i; value = 0 }
+  unfolding read read-number blank-read-number
+  read-refused h =
+      let e : then (then (store-number i) (cond (wrong-address a) ADDRESS OK)) (cond (is-held (value a (pages i))) OK NOT-HELD) ≡ store-number i =
+            ap (λ (n : ℕ). then n (cond (is-held (value a (pages i))) OK NOT-HELD)) (then-refused (store-number i) (cond (wrong-address a) ADDRESS OK) h) ∙ then-refused (store-number i) _ h in
+      rw (e, not-accepted (store-number i) h)
+
+  module _ (ok : store-number i ≡ 0) where
+    pub read-last : a ≡ 65535 → read a i ≡ record { number = ADDRESS; value = 0 }
+    unfolding read read-number blank-read-number then accepted
+    read-last e = rw (ok, last-address a e)
+
+    pub read-found : (v : ℕ) → a < 65535 → value a (pages i) ≡ some v → read a i ≡ record { number = OK; value = v }
+    unfolding read read-number blank-read-number then accepted is-held or-value
+    read-found v l e = rw (ok, other-address a l, e)
+
+    pub read-nothing : a < 65535 → value a (pages i) ≡ none → read a i ≡ record { number = NOT-HELD; value = 0 }
+    unfolding read read-number blank-read-number then accepted is-held or-value
+    read-nothing l e = rw (ok, other-address a l, e)
+
+  -- ---- blank read
+
+  pub blank-read-refused : (store-number i ≡ 0 → ⊥) → blank-read a i ≡ record { number = store-number i; value = 0 }
+  unfolding blank-read blank-read-number
+  blank-read-refused h = rw (then-refused (store-number i) (cond (wrong-address a) ADDRESS OK) h, not-accepted (store-number i) h)
+
+  module _ (ok : store-number i ≡ 0) where
+    pub blank-read-last : a ≡ 65535 → blank-read a i ≡ record { number = ADDRESS; value = 0 }
+    unfolding blank-read blank-read-number then accepted
+    blank-read-last e = rw (ok, last-address a e)
+
+    pub blank-read-found : a < 65535 → blank-read a i ≡ record { number = OK; value = blank-value a i }
+    unfolding blank-read blank-read-number then accepted
+    blank-read-found l = rw (ok, other-address a l)
+
+-- ---- lookup
+
+pub lookup-refused : (i : List ℕ) → (store-number i ≡ 0 → ⊥) → lookup i ≡ record { number = store-number i; paired = false; digits = 0 ∷ 0 ∷ 0 ∷ 0 ∷ [] }
+unfolding lookup
+lookup-refused i h = rw (not-accepted (store-number i) h)
+
+pub lookup-done : (i : List ℕ) → store-number i ≡ 0 → lookup i ≡ record { number = OK; paired = not (among 255 (digits i)); digits = digits i }
+unfolding lookup accepted
+lookup-done i ok = rw ok
+
+-- ---- recovery and write
+
+module _ (number n : ℕ) (ss : List Step) (i : List ℕ) where
+  pub stepped-refused : (number ≡ 0 → ⊥) → stepped number n ss i ≡ record { number = number; steps = 0; finished = false; image = i }
+  unfolding stepped
+  stepped-refused h = rw (not-accepted number h)
+
+  pub stepped-done : number ≡ 0 → stepped number n ss i ≡ record { number = OK; steps = length (take n ss); finished = leb (length ss) n; image = run page-size (take n ss) i }
+  unfolding stepped accepted
+  stepped-done e = rw e
+
+-- the number of a write, test by test
+module _ (a v : ℕ) (i : List ℕ) where
+  pub write-store : (store-number i ≡ 0 → ⊥) → write-number a v i ≡ store-number i
+  unfolding write-number
+  write-store h = then-refused (store-number i) _ h
+
+  module _ (ok : store-number i ≡ 0) where
+    pub write-unclean : is-unclean (states (pages i)) ≡ true → write-number a v i ≡ UNCLEAN
+    unfolding write-number then
+    write-unclean u = rw (ok, u)
+
+    module _ (clean : is-unclean (states (pages i)) ≡ false) where
+      pub write-last : a ≡ 65535 → write-number a v i ≡ ADDRESS
+      unfolding write-number then
+      write-last e = rw (ok, clean, last-address a e)
+
+      module _ (far : a < 65535) where
+        pub write-same : is-value (value a (pages i)) v ≡ true → write-number a v i ≡ OK
+        unfolding write-number then
+        write-same e = rw (ok, clean, other-address a far, e)
+
+        module _ (new : is-value (value a (pages i)) v ≡ false) where
+          pub write-full : no-room a (pages i) ≡ true → write-number a v i ≡ NO-ROOM
+          unfolding write-number then
+          write-full e = rw (ok, clean, other-address a far, new, e)
+
+          pub write-end : no-room a (pages i) ≡ false → order-end (pages i) ≡ true → write-number a v i ≡ ORDER-END
+          unfolding write-number then
+          write-end e f = rw (ok, clean, other-address a far, new, e, f)
+
+          pub write-ok : no-room a (pages i) ≡ false → order-end (pages i) ≡ false → write-number a v i ≡ OK
+          unfolding write-number then
+          write-ok e f = rw (ok, clean, other-address a far, new, e, f)
