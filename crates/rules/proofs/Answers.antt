@@ -53,7 +53,7 @@ module _ (i : List ℕ) (a : ℕ) where
   unfolding read read-number blank-read-number
   read-refused h =
       let e : then (then (store-number i) (cond (wrong-address a) ADDRESS OK)) (cond (is-held (value a (pages i))) OK NOT-HELD) ≡ store-number i =
-            ap (λ (n : ℕ). then n (cond (is-held (value a (pages i))) OK NOT-HELD)) (then-refused (store-number i) (cond (wrong-address a) ADDRESS OK) h) ∙ then-refused (store-number i) _ h in
+      ap (λ (n : ℕ). then n (cond (is-held (value a (pages i))) OK NOT-HELD)) (then-refused (store-number i) (cond (wrong-address a) ADDRESS OK) h) ∙ then-refused (store-number i) _ h in
       rw (e, not-accepted (store-number i) h)
 
   module _ (ok : store-number i ≡ 0) where

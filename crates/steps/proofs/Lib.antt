@@ -1,3 +1,4 @@
 pub mod Halves
 pub mod Renewing
 pub mod Picked
+pub mod Copies

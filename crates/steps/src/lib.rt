@@ -5,10 +5,12 @@ ghost use Prim.Native.Nat.{_+_, _-_, _*_, _≤_, _<_};
 ghost use lib.ListN.{length, take};
 ghost use Rattle.rules.specs.Flash.{run};
 ghost use Rattle.rules.specs.Word.{word-steps};
-ghost use Rattle.rules.specs.Steps.{renew, renew-all};
+ghost use Rattle.rules.specs.Steps.{renew, renew-all, copy-steps};
 ghost use Rattle.rules.proofs.Plans.{AllAllowed};
 ghost use Rattle.words.specs.Read.{as-word};
 ghost use Rattle.steps.specs.Picked.{wear-at, picked-steps};
+ghost use Rattle.steps.specs.Copied.{copied};
+use settings::Settings;
 use words::Word;
 
 // Programs a word at its place in a page, first half first.
@@ -81,4 +83,26 @@ pub fn recycle_picked(image: &mut [u8], n: usize, picks: [bool; 32], mark: u8, l
         i += 1;
     }
     rest
+}
+
+// Copies every held address but the written one, addresses rising, to the slots of a page, then the new record.
+pub fn copy(image: &mut [u8], page: usize, s: Settings, address: u16, value: u8, left: u16) -> u16
+    requires { ⌜ (page < 32) × (s .held ≤ 192) ⌝ }
+    requires { ⌜ AllAllowed 1024 (take left (copy-steps page 0 (copied (s .addresses) (s .values) (s .held) address value))) (now image) ⌝ }
+    ensures { λ r. ⌜ r ≡ left - length (copy-steps page 0 (copied (s .addresses) (s .values) (s .held) address value)) ⌝ }
+    ensures { λ r. ⌜ now (image .exit) ≡ run 1024 (take left (copy-steps page 0 (copied (s .addresses) (s .values) (s .held) address value))) (now (image .entry)) ⌝ }
+{
+    let held = s.held;
+    let mut rest = left;
+    let mut place = 3;
+    let mut i = 0;
+    while i < held {
+        let a = s.addresses[i];
+        if a != address {
+            rest = program_word(image, page, place, words::record_word(a, s.values[i]), rest);
+            place += 1;
+        }
+        i += 1;
+    }
+    program_word(image, page, place, words::record_word(address, value), rest)
 }

@@ -1,0 +1,15 @@
+-- The records that a move copies, out of the arrays of the held addresses and values.
+use Prim.Native.Nat.{ℕ, zero, suc}
+use mathlib.Core.List.{List, [], _∷_, _++_}
+use lib.ListN.{getD}
+use Rattle.rules.specs.Store.{Setting, setting}
+use Rattle.rules.specs.Steps.{but}
+
+-- the first n rows of the two arrays
+unfoldable pub rows : (addresses values : List ℕ) → (n : ℕ) → List Setting
+rows xs ys zero = []
+rows xs ys (suc n) = rows xs ys n ++ (setting (getD xs n 0) (getD ys n 0) ∷ [])
+
+-- "every held address but the written one, addresses rising, then the new record"
+unfoldable pub copied : (addresses values : List ℕ) → (held address value : ℕ) → List Setting
+copied xs ys n a v = but a (rows xs ys n) ++ (setting a v ∷ [])
