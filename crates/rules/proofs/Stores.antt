@@ -141,7 +141,7 @@ unfolding Below
 below-append m [] ys h t = t
 below-append m (x ∷ xs) ys h t = (h .0, below-append m xs ys (h .1) t)
 
-greatest-last : (q : Page) (xs ys : List Page) → Below (order (q .state)) xs → Below (order (q .state)) ys → oldest-first (xs ++ q ∷ ys) ≡ oldest-first (xs ++ ys) ++ q ∷ []
+pub greatest-last : (q : Page) (xs ys : List Page) → Below (order (q .state)) xs → Below (order (q .state)) ys → oldest-first (xs ++ q ∷ ys) ≡ oldest-first (xs ++ ys) ++ q ∷ []
 unfolding Below oldest-first
 greatest-last q [] ys h t = insert-last q (oldest-first ys) (below-oldest (order (q .state)) ys t)
 greatest-last q (x ∷ xs) ys h t = rw (greatest-last q xs ys (h .1) t) (insert-before x q (oldest-first (xs ++ ys)) (h .0))

@@ -2,7 +2,7 @@
 ghost use mathlib.Core.Path.{_≡_};
 ghost use Prim.Native.Nat.{_+_, _≤_, _<_};
 ghost use lib.ListN.{length};
-ghost use Rattle.rules.specs.Word.{zeros, check, sound, blank, condition, slot-condition, low16, low24, checked, wear-word, number-word, opening-word, done-word, record-word};
+ghost use Rattle.rules.specs.Word.{zeros, check, sound, blank, condition, low16, low24, checked, wear-word, number-word, opening-word, done-word, record-word};
 ghost use Rattle.words.specs.Read.{as-word, as-condition, word-in};
 
 pub struct Word {
@@ -60,22 +60,6 @@ pub fn condition_of(w: Word) -> Condition
     ensures { λ r. ⌜ as-condition r ≡ condition (as-word w) ⌝ }
 {
     if is_sound(w) {
-        return Condition::Sound;
-    }
-    if is_blank(w) {
-        return Condition::Blank;
-    }
-    Condition::Spoiled
-}
-
-// The same of a word in a slot, where a sound word with address 65,535 counts as spoiled.
-pub fn slot_condition(w: Word) -> Condition
-    ensures { λ r. ⌜ as-condition r ≡ slot-condition (as-word w) ⌝ }
-{
-    if is_sound(w) {
-        if low16(w) == 65535 {
-            return Condition::Spoiled;
-        }
         return Condition::Sound;
     }
     if is_blank(w) {

@@ -1,0 +1,5 @@
+-- `Meaning` is what callers cite; the others serve the proofs of this crate.
+mod Greatest
+mod Loops
+mod Young
+pub mod Meaning
