@@ -13,31 +13,12 @@ use Rattle.rules.specs.Store.{states, base, used, is-open, used-orders, Setting
 use Rattle.rules.specs.Steps.{unclean, is-value}
 use Rattle.rules.specs.Call.{page-size, page-mark, page-count, pages, cut, wrong-size, no-store, repeats, all-used, damaged, is-unclean, wrong-address, is-held, no-room, order-end, then, store-number, write-number, blank-read-number, read-number, Reading, accepted, or-value, read, OK, UNCLEAN, ADDRESS, NO-ROOM, ORDER-END, NOT-HELD, held-limit}
 use Rattle.rules.proofs.Truth.{failed, by-cases, is-false, not-both}
-use Rattle.rules.proofs.Stores.{length-states, orders-used, count-used, count-all}
+use Rattle.rules.proofs.Stores.{length-states, count-open, orders-used, count-used, count-all}
 use Rattle.rules.proofs.Phases.{Pages}
 use Rattle.rules.proofs.Told.{told}
 use Rattle.promise.proofs.Keeps.{Keeps}
 use Rattle.promise.proofs.Good.{Good, journal-is}
 use Rattle.promise.proofs.Write.{Accepted}
-
--- used pages are open
-count-open : (b : ℕ) (ss : List State) → count (used b) ss ≤ count is-open ss
-unfolding count used is-open
-count-open b [] = omega arith
-count-open b (s ∷ ss) = let rest = count-open b ss in at-most (used b s) (is-open s) (one b s) rest
-  where
-    one : (b : ℕ) (s : State) → used b s ≡ true → is-open s ≡ true
-    one b (cleared n) h = h
-    one b (open₁ o) h = refl
-    one b (open₂ o) h = refl
-    one b receiving h = h
-    one b bad h = h
-
-    at-most : (x y : Bool) → (x ≡ true → y ≡ true) → {p q : ℕ} → p ≤ q → cond x 1 0 + p ≤ cond y 1 0 + q
-    at-most true true d l = omega arith
-    at-most true false d l = not-both (d refl) refl
-    at-most false true d l = omega arith
-    at-most false false d l = omega arith
 
 -- the table's rows 2 and 3, of pages
 module _ (mark m n L : ℕ) (J : List Setting) (F : Pages) (g : Good mark (suc (suc (suc m))) n L J F) where

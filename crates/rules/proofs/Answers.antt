@@ -19,12 +19,12 @@ not-accepted : (n : ℕ) → (n ≡ 0 → ⊥) → accepted n ≡ false
 unfolding accepted
 not-accepted n h = ne-eqb n 0 h
 
-then-refused : (n next : ℕ) → (n ≡ 0 → ⊥) → then n next ≡ n
+pub then-refused : (n next : ℕ) → (n ≡ 0 → ⊥) → then n next ≡ n
 unfolding then
 then-refused zero next h = absurd (h refl)
 then-refused (suc n) next h = refl
 
-then-ok : (n next : ℕ) → n ≡ 0 → then n next ≡ next
+pub then-ok : (n next : ℕ) → n ≡ 0 → then n next ≡ next
 unfolding then
 then-ok n next e = rw e
 

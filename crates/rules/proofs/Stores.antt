@@ -476,3 +476,22 @@ pub count-used : (b : ℕ) (ps : List Page) → length (orders (used-pages b ps)
 unfolding orders used-pages add-page count states
 count-used b [] = refl
 count-used b (p ∷ ps) = by-cases (used b (p .state)) (λ u. let e = count-used b ps in rw u (omega arith)) (λ u. let e = count-used b ps in rw u (omega arith))
+
+-- used pages are open
+pub count-open : (b : ℕ) (ss : List State) → count (used b) ss ≤ count is-open ss
+unfolding count used is-open
+count-open b [] = omega arith
+count-open b (s ∷ ss) = let rest = count-open b ss in at-most (used b s) (is-open s) (one b s) rest
+  where
+    one : (b : ℕ) (s : State) → used b s ≡ true → is-open s ≡ true
+    one b (cleared n) h = h
+    one b (open₁ o) h = refl
+    one b (open₂ o) h = refl
+    one b receiving h = h
+    one b bad h = h
+
+    at-most : (x y : Bool) → (x ≡ true → y ≡ true) → {p q : ℕ} → p ≤ q → cond x 1 0 + p ≤ cond y 1 0 + q
+    at-most true true d l = omega arith
+    at-most true false d l = not-both (d refl) refl
+    at-most false true d l = omega arith
+    at-most false false d l = omega arith

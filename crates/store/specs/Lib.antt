@@ -1,0 +1,3 @@
+pub mod Look
+pub mod Gather
+pub mod Opened
