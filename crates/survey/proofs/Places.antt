@@ -36,10 +36,7 @@ module _ {A B : Type 0} (f : A → B) where
   pub map-next : (xs : List A) (i : ℕ) (e : A) → i < length xs → map f (take (i + 1) xs) ≡ map f (take i xs) ++ (f (getD xs i e) ∷ [])
   map-next xs i e h = rw (add-one, take-suc xs i e h) (map-append f (take i xs) (getD xs i e ∷ []))
 
-  -- the results for the first places, and what fills the rest: before, after one more, and at the end
-  pub map-none : (n : ℕ) (xs : List A) (d : B) → replicate n d ≡ map f (take 0 xs) ++ replicate (n - 0) d
-  map-none n xs d = let e : n - 0 ≡ n = omega arith in rw e
-
+  -- the results for the first places, and what fills the rest: after one more, and at the end
   pub map-more : (n : ℕ) (xs : List A) (i : ℕ) (d : B) (e : A) → i < length xs → i < n → set (map f (take i xs) ++ replicate (n - i) d) i (f (getD xs i e)) ≡ map f (take (i + 1) xs) ++ replicate (n - (i + 1)) d
   map-more n xs i d e h l =
       next-place n (map f (take i xs)) i d (f (getD xs i e)) (length-map (take i xs) f ∙ length-take-le i xs (omega arith)) l ∙ ap (λ (r : List B). r ++ replicate (n - (i + 1)) d) (sym (map-next xs i e h))
