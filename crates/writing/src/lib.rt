@@ -1,0 +1,100 @@
+// The calls that change the image: format, recovery and write. An image of any length and content is lawful. It changes
+// through the two functions of crate flash only, one call for each step, in the order that 01 lists.
+use store::Look;
+ghost use mathlib.Core.Path.{_≡_};
+ghost use mathlib.Core.Bool.{false};
+ghost use mathlib.Core.List.{List};
+ghost use Prim.Native.Nat.{ℕ, _+_, _-_, _*_, _≤_, _<_, min};
+ghost use lib.Dec.{leb};
+ghost use lib.ListN.{length, take};
+ghost use Rattle.rules.specs.Flash.{run};
+ghost use Rattle.ranks.specs.Places.{taken-places};
+ghost use Rattle.survey.specs.Survey.{marked, neither-at};
+ghost use Rattle.steps.specs.Picked.{picked-steps};
+ghost use Rattle.rules.specs.Call.{format, recover};
+ghost use Rattle.writing.specs.Answers.{as-stepped};
+
+#[repr(C)]
+pub struct Stepped {
+    pub number: u8,
+    pub finished: bool,
+    pub steps: u16,
+}
+
+// That many steps, cut at the allowance.
+fn done(steps: u16, allowance: u16) -> Stepped
+    ensures { λ r. ⌜ (r .number ≡ 0) × (r .steps ≡ min allowance steps) × (r .finished ≡ leb steps allowance) ⌝ }
+{
+    if allowance < steps {
+        return Stepped {
+            number: 0,
+            finished: false,
+            steps: allowance,
+        };
+    }
+    Stepped {
+        number: 0,
+        finished: true,
+        steps,
+    }
+}
+
+fn refused(number: u8) -> Stepped
+    ensures { λ r. ⌜ (r .number ≡ number) × (r .steps ≡ 0) × (r .finished ≡ false) ⌝ }
+{
+    Stepped {
+        number,
+        finished: false,
+        steps: 0,
+    }
+}
+
+// The opening word of page 0: order 0, kind 1.
+pub fn format(image: &mut [u8]) -> u8
+    ensures { λ r. ⌜ r ≡ format (now (image .entry)) .number ⌝ }
+    ensures { λ r. ⌜ now (image .exit) ≡ format (now (image .entry)) .image ⌝ }
+{
+    let n = survey::page_count(image);
+    if n == 0 {
+        return 1;
+    }
+    steps::renew_all(image, 1, n);
+    steps::program_word(image, 0, 1, words::opening_word(1, 0), 2);
+    0
+}
+
+// How many pages are neither used nor cleared.
+fn unclean_count(look: Look) -> u16
+    requires { ⌜ (look .count ≤ 32) × (look .used + taken-places (take 32 (look .spares)) ≤ look .count) ⌝ }
+    ensures { λ r. ⌜ r ≡ look .count - look .used - taken-places (take 32 (look .spares)) ⌝ }
+{
+    let spares = look.spares;
+    let cleared = ranks::count(&spares);
+    (look.count - look.used - cleared) as u16
+}
+
+// Renews them, in index order.
+fn renew_unclean(image: &mut [u8], look: Look, allowance: u16)
+    requires { ⌜ (look .count ≤ 32) × (look .count * 1024 ≤ length (now image)) ⌝ }
+    ensures { λ _. ⌜ now (image .exit) ≡ run 1024 (take allowance (picked-steps 1 (look .count) (marked (neither-at (look .ranks) (look .spares)) (look .count)) (now (image .entry)))) (now (image .entry)) ⌝ }
+{
+    let n = look.count;
+    let ranks = look.ranks;
+    let spares = look.spares;
+    let picks = survey::unclean(&ranks, &spares, n);
+    steps::recycle_picked(image, n, picks, 1, allowance);
+}
+
+pub fn recover(image: &mut [u8], allowance: u16) -> Stepped
+    ensures { λ r. ⌜ as-stepped r (now (image .exit)) ≡ recover allowance (now (image .entry)) ⌝ }
+{
+    let store = store::open(image);
+    let number = store.number;
+    if number != 0 {
+        return refused(number);
+    }
+    let look = store.look;
+    let unclean = unclean_count(look);
+    renew_unclean(image, look, allowance);
+    done(3 * unclean, allowance)
+}
