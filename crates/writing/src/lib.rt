@@ -1,5 +1,6 @@
 // The calls that change the image: format, recovery and write. An image of any length and content is lawful. It changes
 // through the two functions of crate flash only, one call for each step, in the order that 01 lists.
+use settings::Settings;
 use store::Look;
 ghost use mathlib.Core.Path.{_≡_};
 ghost use mathlib.Core.Bool.{false};
@@ -8,11 +9,15 @@ ghost use Prim.Native.Nat.{ℕ, _+_, _-_, _*_, _≤_, _<_, min};
 ghost use lib.Dec.{leb};
 ghost use lib.ListN.{length, take};
 ghost use Rattle.rules.specs.Flash.{run};
+ghost use Rattle.rules.specs.Word.{word-steps, record-word, done-word};
+ghost use Rattle.rules.proofs.Plans.{AllAllowed};
+ghost use Rattle.steps.specs.Copied.{copied};
 ghost use Rattle.ranks.specs.Places.{taken-places};
 ghost use Rattle.survey.specs.Survey.{marked, neither-at};
 ghost use Rattle.steps.specs.Picked.{picked-steps};
 ghost use Rattle.rules.specs.Call.{format, recover};
 ghost use Rattle.writing.specs.Answers.{as-stepped};
+ghost use Rattle.writing.specs.Plans.{Does, opening-plan, filling-plan, finished-image};
 
 #[repr(C)]
 pub struct Stepped {
@@ -97,4 +102,47 @@ pub fn recover(image: &mut [u8], allowance: u16) -> Stepped
     let unclean = unclean_count(look);
     renew_unclean(image, look, allowance);
     done(3 * unclean, allowance)
+}
+
+// The record goes into a free slot.
+fn append(image: &mut [u8], page: usize, place: usize, address: u16, value: u8, allowance: u16) -> Stepped
+    requires { ⌜ (page < 32) × (place < 256) ⌝ }
+    requires { ⌜ AllAllowed 1024 (take allowance (word-steps page place (record-word address value))) (now image) ⌝ }
+    ensures { λ r. ⌜ Does allowance (word-steps page place (record-word address value)) (now (image .entry)) r (now (image .exit)) ⌝ }
+{
+    steps::program_word(image, page, place, words::record_word(address, value), allowance);
+    done(2, allowance)
+}
+
+// A cleared page is opened, and the record goes into its slot 0.
+fn open_page(image: &mut [u8], page: usize, order: u32, address: u16, value: u8, allowance: u16) -> Stepped
+    requires { ⌜ (page < 32) × (order < 4194304) ⌝ }
+    requires { ⌜ AllAllowed 1024 (take allowance (opening-plan page order address value)) (now image) ⌝ }
+    ensures { λ r. ⌜ Does allowance (opening-plan page order address value) (now (image .entry)) r (now (image .exit)) ⌝ }
+{
+    let left = steps::program_word(image, page, 1, words::opening_word(1, order), allowance);
+    steps::program_word(image, page, 3, words::record_word(address, value), left);
+    done(4, allowance)
+}
+
+// A cleared page is opened to receive, and what is held is copied to it.
+fn fill(image: &mut [u8], page: usize, order: u32, s: Settings, address: u16, value: u8, left: u16) -> u16
+    requires { ⌜ (page < 32) × (order < 4194304) × (s .held ≤ 192) ⌝ }
+    requires { ⌜ AllAllowed 1024 (take left (filling-plan page order (copied (s .addresses) (s .values) (s .held) address value))) (now image) ⌝ }
+    ensures { λ r. ⌜ r ≡ left - length (filling-plan page order (copied (s .addresses) (s .values) (s .held) address value)) ⌝ }
+    ensures { λ r. ⌜ now (image .exit) ≡ run 1024 (take left (filling-plan page order (copied (s .addresses) (s .values) (s .held) address value))) (now (image .entry)) ⌝ }
+{
+    let rest = steps::program_word(image, page, 1, words::opening_word(2, order), left);
+    steps::copy(image, page, s, address, value, rest)
+}
+
+// The done word, and then the other pages are renewed.
+fn finish(image: &mut [u8], page: usize, order: u32, n: usize, left: u16)
+    requires { ⌜ (page < 32) × (order < 4194304) × (n ≤ 32) × (n * 1024 ≤ length (now image)) ⌝ }
+    requires { ⌜ AllAllowed 1024 (take left (word-steps page 2 (done-word order))) (now image) ⌝ }
+    ensures { λ _. ⌜ now (image .exit) ≡ finished-image page order n left (now (image .entry)) ⌝ }
+{
+    let rest = steps::program_word(image, page, 2, words::done_word(order), left);
+    let picks = survey::others(n, page);
+    steps::recycle_picked(image, n, picks, 1, rest);
 }
