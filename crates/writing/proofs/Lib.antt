@@ -1,3 +1,4 @@
 pub mod Formatting
 pub mod Recovering
 pub mod Parts
+pub mod Moving

@@ -1,5 +1,5 @@
 -- The parts of a write's plan, as the functions do them, and what it is to do a plan under an allowance.
-use Prim.Native.Nat.{ℕ, _-_, min}
+use Prim.Native.Nat.{ℕ, _-_, _≤_, min}
 use mathlib.Core.Path.{_≡_}
 use mathlib.Core.List.{List, _++_}
 use lib.ListN.{length, take}
@@ -8,6 +8,9 @@ use Rattle.rules.specs.Flash.{Step, run}
 use Rattle.rules.specs.Word.{opening-word, done-word, record-word, word-steps}
 use Rattle.rules.specs.Store.{Setting}
 use Rattle.rules.specs.Steps.{copy-steps}
+use Rattle.rules.proofs.Settings.{Rising}
+use Rattle.settings.specs.Held.{Holds}
+use Rattle.settings.specs.declared.Settings.{Settings}
 use Rattle.survey.specs.Survey.{marked, other}
 use Rattle.steps.specs.Picked.{picked-steps}
 use Rattle.writing.specs.declared.Stepped.{Stepped}
@@ -24,6 +27,17 @@ opening-plan p o a v = word-steps p 1 (opening-word 1 o) ++ word-steps p 3 (reco
 
 unfoldable pub filling-plan : (page order : ℕ) → List Setting → List Step
 filling-plan p o cs = word-steps p 1 (opening-word 2 o) ++ copy-steps p 0 cs
+
+-- the whole of a move: the page is filled, its done word is programmed, every other page is renewed
+unfoldable pub moving-plan : (page order n : ℕ) → List Setting → List ℕ → List Step
+moving-plan p o n cs i = filling-plan p o cs ++ word-steps p 2 (done-word o) ++ picked-steps 1 n (marked (other p) n) i
+
+-- arrays that hold a table of settings, addresses rising
+pub record Tabled (s : Settings) : Type 0 where
+  pub table : List Setting
+  pub rising : Rising table
+  pub few : length table ≤ 192
+  pub holds : Holds (s .addresses) (s .values) (s .held) table
 
 -- the image after the done word and the renewals, of the pages as they are then
 unfoldable pub finished-image : (page order n left : ℕ) → List ℕ → List ℕ

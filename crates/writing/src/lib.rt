@@ -105,17 +105,37 @@ pub fn recover(image: &mut [u8], allowance: u16) -> Stepped
 }
 
 // The record goes into a free slot.
-fn append(image: &mut [u8], page: usize, place: usize, address: u16, value: u8, allowance: u16) -> Stepped
+fn append(
+    image: &mut [u8],
+    page: usize,
+    place: usize,
+    address: u16,
+    value: u8,
+    allowance: u16,
+) -> Stepped
     requires { ⌜ (page < 32) × (place < 256) ⌝ }
     requires { ⌜ AllAllowed 1024 (take allowance (word-steps page place (record-word address value))) (now image) ⌝ }
     ensures { λ r. ⌜ Does allowance (word-steps page place (record-word address value)) (now (image .entry)) r (now (image .exit)) ⌝ }
 {
-    steps::program_word(image, page, place, words::record_word(address, value), allowance);
+    steps::program_word(
+        image,
+        page,
+        place,
+        words::record_word(address, value),
+        allowance,
+    );
     done(2, allowance)
 }
 
 // A cleared page is opened, and the record goes into its slot 0.
-fn open_page(image: &mut [u8], page: usize, order: u32, address: u16, value: u8, allowance: u16) -> Stepped
+fn open_page(
+    image: &mut [u8],
+    page: usize,
+    order: u32,
+    address: u16,
+    value: u8,
+    allowance: u16,
+) -> Stepped
     requires { ⌜ (page < 32) × (order < 4194304) ⌝ }
     requires { ⌜ AllAllowed 1024 (take allowance (opening-plan page order address value)) (now image) ⌝ }
     ensures { λ r. ⌜ Does allowance (opening-plan page order address value) (now (image .entry)) r (now (image .exit)) ⌝ }
@@ -126,7 +146,15 @@ fn open_page(image: &mut [u8], page: usize, order: u32, address: u16, value: u8,
 }
 
 // A cleared page is opened to receive, and what is held is copied to it.
-fn fill(image: &mut [u8], page: usize, order: u32, s: Settings, address: u16, value: u8, left: u16) -> u16
+fn fill(
+    image: &mut [u8],
+    page: usize,
+    order: u32,
+    s: Settings,
+    address: u16,
+    value: u8,
+    left: u16,
+) -> u16
     requires { ⌜ (page < 32) × (order < 4194304) × (s .held ≤ 192) ⌝ }
     requires { ⌜ AllAllowed 1024 (take left (filling-plan page order (copied (s .addresses) (s .values) (s .held) address value))) (now image) ⌝ }
     ensures { λ r. ⌜ r ≡ left - length (filling-plan page order (copied (s .addresses) (s .values) (s .held) address value)) ⌝ }
