@@ -216,3 +216,31 @@ copied-table s h a v = ap (λ (t : List Setting). but a t ++ (setting a v ∷ []
 pub copied-long : (xs ys : List ℕ) (held a v : ℕ) → length (copied xs ys held a v) ≡ length (but a (rows xs ys held)) + 1
 unfolding copied
 copied-long xs ys held a v = length-append (but a (rows xs ys held)) (setting a v ∷ [])
+
+module _ (s : Settings) (h : Tabled s) (a : ℕ) where
+  abbrev kept : ℕ
+  kept = length (but a (rows (s .addresses) (s .values) (s .held)))
+
+  pub count-held : (u : ℕ) → some u ≡ last-of a (h .table) → s .held ≡ kept + 1
+  count-held u k =
+      let e = ap (λ (t : List Setting). length (but a t)) (rows-table s h) in
+      omega (arith, but-one a u (h .table) (h .rising) (sym k), h .holds .few-held (h .few))
+
+  pub count-new : none ≡ last-of a (h .table) → s .held ≡ kept
+  count-new k =
+      let e = ap (λ (t : List Setting). length (but a t)) (rows-table s h) in
+      let f = ap length (but-none a (h .table) (sym k)) in
+      omega (arith, h .holds .few-held (h .few))
+
+  -- the copies fit
+  pub copies-fit : (v : ℕ) → length (copied (s .addresses) (s .values) (s .held) a v) ≤ 253
+  copies-fit v =
+      let e = ap (λ (t : List Setting). length (but a t)) (rows-table s h) in
+      omega (arith, copied-long (s .addresses) (s .values) (s .held) a v, but-length a (h .table), h .few)
+
+-- all the steps of a move, by the copies counted
+pub moving-total : (p o n copies : ℕ) (xs ys : List ℕ) (held a v : ℕ) (i : List ℕ) → p < n → copies ≡ length (but a (rows xs ys held)) + 1 → length (moving-plan p o n (copied xs ys held a v) i) ≡ 2 * copies + 3 * n + 1
+moving-total p o n copies xs ys held a v i h e =
+    let m = moving-long p o n (copied xs ys held a v) i h in
+    let c = copied-long xs ys held a v in
+    omega arith

@@ -1,23 +1,25 @@
 // The calls that change the image: format, recovery and write. An image of any length and content is lawful. It changes
 // through the two functions of crate flash only, one call for each step, in the order that 01 lists.
+use settings::Held;
 use settings::Settings;
 use store::Look;
 ghost use mathlib.Core.Path.{_≡_};
 ghost use mathlib.Core.Bool.{false};
-ghost use mathlib.Core.List.{List};
+ghost use mathlib.Core.List.{List, _++_};
 ghost use Prim.Native.Nat.{ℕ, _+_, _-_, _*_, _≤_, _<_, min};
 ghost use lib.Dec.{leb};
 ghost use lib.ListN.{length, take};
 ghost use Rattle.rules.specs.Flash.{run};
 ghost use Rattle.rules.specs.Word.{word-steps, record-word, done-word};
 ghost use Rattle.rules.proofs.Plans.{AllAllowed};
-ghost use Rattle.steps.specs.Copied.{copied};
+ghost use Rattle.rules.specs.Steps.{but};
+ghost use Rattle.steps.specs.Copied.{rows, copied};
 ghost use Rattle.ranks.specs.Places.{taken-places};
 ghost use Rattle.survey.specs.Survey.{marked, neither-at};
 ghost use Rattle.steps.specs.Picked.{picked-steps};
 ghost use Rattle.rules.specs.Call.{format, recover};
 ghost use Rattle.writing.specs.Answers.{as-stepped};
-ghost use Rattle.writing.specs.Plans.{Does, opening-plan, filling-plan, finished-image};
+ghost use Rattle.writing.specs.Plans.{Does, Tabled, opening-plan, filling-plan, moving-plan, finished-image};
 
 #[repr(C)]
 pub struct Stepped {
@@ -173,4 +175,40 @@ fn finish(image: &mut [u8], page: usize, order: u32, n: usize, left: u16)
     let rest = steps::program_word(image, page, 2, words::done_word(order), left);
     let picks = survey::others(n, page);
     steps::recycle_picked(image, n, picks, 1, rest);
+}
+
+// How many records a move copies.
+fn copy_count(s: Settings, address: u16) -> u16
+    requires { ⌜ (s .held ≤ 192) × (address < 65535) ⌝ }
+    requires { ⌜ Tabled s ⌝ }
+    ensures { λ r. ⌜ r ≡ length (but address (rows (s .addresses) (s .values) (s .held))) + 1 ⌝ }
+    ensures { λ r. ⌜ r ≤ 193 ⌝ }
+{
+    let held = s.held as u16;
+    match settings::value_of(s, address) {
+        Held::Value(_) => held,
+        Held::Nothing => held + 1,
+    }
+}
+
+// The last cleared page receives all that is held, and the other pages are renewed.
+fn move_to(
+    image: &mut [u8],
+    page: usize,
+    order: u32,
+    n: usize,
+    s: Settings,
+    address: u16,
+    value: u8,
+    allowance: u16,
+) -> Stepped
+    requires { ⌜ (page < n) × (n ≤ 32) × (length (now image) ≡ n * 1024) × (order < 4194304) × (s .held ≤ 192) × (address < 65535) ⌝ }
+    requires { ⌜ Tabled s ⌝ }
+    requires { ⌜ AllAllowed 1024 (take allowance (filling-plan page order (copied (s .addresses) (s .values) (s .held) address value) ++ word-steps page 2 (done-word order))) (now image) ⌝ }
+    ensures { λ r. ⌜ Does allowance (moving-plan page order n (copied (s .addresses) (s .values) (s .held) address value) (now (image .entry))) (now (image .entry)) r (now (image .exit)) ⌝ }
+{
+    let copies = copy_count(s, address);
+    let left = fill(image, page, order, s, address, value, allowance);
+    finish(image, page, order, n, left);
+    done(2 * copies + 3 * n as u16 + 1, allowance)
 }
