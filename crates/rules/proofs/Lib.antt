@@ -15,6 +15,7 @@ pub mod Active
 pub mod Building
 pub mod Renewing
 pub mod Ready
+pub mod Held
 pub mod Answers
 pub mod Laid
 pub mod Moves

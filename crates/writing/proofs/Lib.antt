@@ -2,3 +2,4 @@ pub mod Formatting
 pub mod Recovering
 pub mod Parts
 pub mod Moving
+pub mod Ways

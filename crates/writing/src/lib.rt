@@ -1,5 +1,6 @@
 // The calls that change the image: format, recovery and write. An image of any length and content is lawful. It changes
 // through the two functions of crate flash only, one call for each step, in the order that 01 lists.
+use choosing::Way;
 use settings::Held;
 use settings::Settings;
 use store::Look;
@@ -17,7 +18,7 @@ ghost use Rattle.steps.specs.Copied.{rows, copied};
 ghost use Rattle.ranks.specs.Places.{taken-places};
 ghost use Rattle.survey.specs.Survey.{marked, neither-at};
 ghost use Rattle.steps.specs.Picked.{picked-steps};
-ghost use Rattle.rules.specs.Call.{format, recover};
+ghost use Rattle.rules.specs.Call.{format, recover, write};
 ghost use Rattle.writing.specs.Answers.{as-stepped};
 ghost use Rattle.writing.specs.Plans.{Does, Tabled, opening-plan, filling-plan, moving-plan, finished-image};
 
@@ -211,4 +212,22 @@ fn move_to(
     let left = fill(image, page, order, s, address, value, allowance);
     finish(image, page, order, n, left);
     done(2 * copies + 3 * n as u16 + 1, allowance)
+}
+
+// The steps that the image at the call fixes, by one look at it.
+pub fn write(image: &mut [u8], address: u16, value: u8, allowance: u16) -> Stepped
+    ensures { λ r. ⌜ as-stepped r (now (image .exit)) ≡ write address value allowance (now (image .entry)) ⌝ }
+{
+    let store = store::open(image);
+    match choosing::choose(image, store, address, value) {
+        Way::Refuse(number) => refused(number),
+        Way::Stay => done(0, allowance),
+        Way::Append(page, place) => append(image, page, place, address, value, allowance),
+        Way::Open(page, order) => open_page(image, page, order, address, value, allowance),
+        Way::Move(page, order) => {
+            let n = store.look.count;
+            let s = store.settings;
+            move_to(image, page, order, n, s, address, value, allowance)
+        }
+    }
 }

@@ -5,7 +5,8 @@ use denote.Ref.{now}
 use Rattle.rules.specs.Store.{settings}
 use Rattle.rules.specs.Call.{pages, store-number}
 use Rattle.rules.proofs.Answers.{blank-read-refused, blank-read-last, blank-read-found}
-use Rattle.reading.proofs.Values.{held-rising, held-few, blank-is}
+use Rattle.reading.proofs.Values.{blank-is}
+use Rattle.rules.proofs.Held.{held-rising, held-few}
 use borrow.Author.Needs.{needs}
 use Rattle.reading.proofs.blank_read.Statement.{statement}
 use Rattle.reading.proofs.blank_read.Tie as tie

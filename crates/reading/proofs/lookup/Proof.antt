@@ -3,7 +3,8 @@ use denote.Ref.{now}
 use Rattle.rules.specs.Store.{settings}
 use Rattle.rules.specs.Call.{pages, store-number}
 use Rattle.rules.proofs.Answers.{lookup-refused, lookup-done}
-use Rattle.reading.proofs.Values.{held-rising, held-few, code-is}
+use Rattle.reading.proofs.Values.{code-is}
+use Rattle.rules.proofs.Held.{held-rising, held-few}
 use borrow.Author.Needs.{needs}
 use Rattle.reading.proofs.lookup.Statement.{statement}
 use Rattle.reading.proofs.lookup.Tie as tie

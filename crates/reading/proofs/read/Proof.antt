@@ -7,7 +7,7 @@ use Rattle.rules.specs.Store.{settings, value}
 use Rattle.rules.specs.Call.{pages, store-number}
 use Rattle.rules.proofs.Answers.{read-refused, read-last, read-found, read-nothing}
 use Rattle.settings.specs.Held.{as-option}
-use Rattle.reading.proofs.Values.{held-rising, held-few, value-is}
+use Rattle.rules.proofs.Held.{held-rising, held-few, value-is}
 use borrow.Author.Needs.{needs}
 use Rattle.reading.proofs.read.Statement.{statement}
 use Rattle.reading.proofs.read.Tie as tie
