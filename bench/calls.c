@@ -1,0 +1,108 @@
+/* calls CALL IMAGE ADDRESS TIMES: does the call TIMES times, each time on a fresh copy of the image in that file; a write
+ * gives the address another value than it has. Prints the answer's number, then its steps or value.
+ *
+ * With `stack` for TIMES it does it once and prints, in third place, the bytes of stack that the call used, its return
+ * address included: the call runs on a stack of its own that was painted before, and how far down the paint was changed
+ * is what it used. For x86-64. */
+#include "istrovell.h"
+
+#include <stdio.h>
+#include <stdlib.h>
+#include <string.h>
+
+#define PAINT 0xA5
+
+typedef void function(void);
+
+static uint8_t image[ISTROVELL_PAGES_MAX * ISTROVELL_PAGE_SIZE];
+static uint8_t lent[sizeof image];
+static size_t length;
+
+/* A call, with what follows pointer and length. The answers, of at most 8 bytes, come back in one register. */
+struct call {
+    const char *name;
+    function *function;
+    uint64_t rest[3];
+};
+
+static uint64_t plain(const struct call *call)
+{
+    typedef uint64_t any(uint8_t *, size_t, uint64_t, uint64_t, uint64_t);
+    return ((any *)call->function)(lent, length, call->rest[0], call->rest[1], call->rest[2]);
+}
+
+static uint64_t on_stack(const struct call *call, uint8_t *top)
+{
+    uint64_t answer;
+    uint8_t *first = lent;
+    size_t second = length;
+    uint64_t third = call->rest[0], fourth = call->rest[1];
+    register uint64_t fifth __asm__("r8") = call->rest[2];
+    __asm__ volatile("mov %%rsp, %%r12\n\t"
+                     "mov %[top], %%rsp\n\t"
+                     "call *%[function]\n\t"
+                     "mov %%r12, %%rsp"
+                     : "=&a"(answer), "+D"(first), "+S"(second), "+d"(third), "+c"(fourth), "+r"(fifth)
+                     : [top] "r"(top), [function] "r"(call->function)
+                     : "r9", "r10", "r11", "r12", "memory", "cc", "xmm0", "xmm1", "xmm2", "xmm3", "xmm4", "xmm5", "xmm6",
+                       "xmm7", "xmm8", "xmm9", "xmm10", "xmm11", "xmm12", "xmm13", "xmm14", "xmm15");
+    return answer;
+}
+
+static size_t stack_used(const struct call *call, uint64_t *answer)
+{
+    static uint8_t stack[1u << 18] __attribute__((aligned(16)));
+    memset(stack, PAINT, sizeof stack);
+    *answer = on_stack(call, stack + sizeof stack);
+    size_t untouched = 0;
+    while (stack[untouched] == PAINT)
+        untouched++;
+    return sizeof stack - untouched;
+}
+
+static void read_image(const char *name)
+{
+    FILE *file = fopen(name, "rb");
+    if (file == NULL) {
+        perror(name);
+        exit(2);
+    }
+    length = fread(image, 1, sizeof image, file);
+    fclose(file);
+}
+
+int main(int count, char **words)
+{
+    if (count != 5)
+        return 2;
+    read_image(words[2]);
+    const uint16_t address = (uint16_t)atoi(words[3]);
+    const uint8_t value = istrovell_blank_read(image, length, address).value ^ 1;
+    const uint64_t all = ISTROVELL_ALL_STEPS;
+    const struct call calls[] = {
+        {"format", (function *)istrovell_format, {0}},
+        {"recover", (function *)istrovell_recover, {all}},
+        {"write", (function *)istrovell_write, {address, value, all}},
+        {"read", (function *)istrovell_read, {address}},
+        {"blank_read", (function *)istrovell_blank_read, {address}},
+        {"lookup", (function *)istrovell_lookup, {0}},
+    };
+    const struct call *call = calls;
+    while (strcmp(call->name, words[1]) != 0)
+        if (++call == calls + sizeof calls / sizeof calls[0])
+            return 2;
+    uint64_t answer = 0;
+    size_t used = 0;
+    memcpy(lent, image, length);
+    if (strcmp(words[4], "stack") == 0) {
+        used = stack_used(call, &answer);
+    } else {
+        for (long times = atol(words[4]); times > 0; times--) {
+            memcpy(lent, image, length);
+            answer = plain(call);
+        }
+    }
+    const bool stepped = call->function == (function *)istrovell_recover || call->function == (function *)istrovell_write;
+    printf("%u %u %zu\n", (unsigned)(answer & 255), (unsigned)(stepped ? answer >> 16 & 65535 : answer >> 8 & 255), used);
+    return 0;
+}

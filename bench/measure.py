@@ -1,0 +1,201 @@
+"""measure.py DIRECTORY FILE: measures DIRECTORY/library and DIRECTORY/second (see calls.c), prints the tables and writes
+them to FILE."""
+
+import os
+import random
+import re
+import subprocess
+import sys
+
+PAGES = (2, 8, 32)
+HELD = 192
+SLOTS = 253
+SEED = 1
+LIMITS = {"write that moves": 1.6, "recovery of one page": 1.2}
+STACK_LIMIT = 4096
+
+
+def word(number):
+    """Three bytes, low first, and the number of their 0 bits."""
+    return number.to_bytes(3, "little") + bytes([24 - bin(number).count("1")])
+
+
+def record(address, value):
+    return word(address | value << 16)
+
+
+def wear(count):
+    return word(count | 1 << 16)
+
+
+def page(order, records):
+    content = wear(1 + order % 9) + word(order * 4 + 1) + b"\xff" * 4 + b"".join(records)
+    return content + b"\xff" * (1024 - len(content))
+
+
+def full_store(pages):
+    """All pages but one full, 192 addresses held, each once to begin with and then at random; pages in random places. Gives
+    the pages, the places of the active and of the cleared one, and an address that is held."""
+    dice = random.Random(SEED)
+    pool = dice.sample(range(65535), HELD)
+    named = (pool + [dice.choice(pool) for _ in range((pages - 1) * SLOTS)])[: (pages - 1) * SLOTS]
+    records = [record(address, dice.randrange(256)) for address in named]
+    places = dice.sample(range(pages), pages)
+    image = [b""] * pages
+    for order in range(pages - 1):
+        image[places[order]] = page(order, records[order * SLOTS : (order + 1) * SLOTS])
+    image[places[-1]] = wear(3) + b"\xff" * 1020
+    return image, places[pages - 2], places[-1], pool[HELD // 2]
+
+
+def cases(pages):
+    """Name, call, image, address, and the answer that is expected: its number and, of a call in steps, its steps."""
+    image, active, cleared, address = full_store(pages)
+    with_a_free_slot = list(image)
+    with_a_free_slot[active] = image[active][:-4] + b"\xff" * 4
+    torn = list(image)
+    torn[cleared] = image[cleared][:-1] + b"\x00"
+    moved = 2 + 2 * HELD + 2 + 3 * (pages - 1)
+    return [
+        ("read", "read", image, address, (0, None)),
+        ("plain write", "write", with_a_free_slot, address, (0, 2)),
+        ("write that moves", "write", image, address, (0, moved)),
+        ("recovery of one page", "recover", torn, address, (0, 3)),
+    ]
+
+
+def output(words):
+    done = subprocess.run(words, capture_output=True, text=True)
+    if done.returncode != 0:
+        sys.exit(f"{' '.join(words)}: status {done.returncode}\n{done.stderr}")
+    return done
+
+
+def answer_of(done, expected):
+    number, other, stack = map(int, done.stdout.split())
+    if number != expected[0] or expected[1] not in (None, other):
+        sys.exit(f"{done.args}: answered {number} {other}, expected {expected}")
+    return stack
+
+
+def collected(program, call, image, address, expected, times):
+    words = ["valgrind", "--tool=callgrind", "--callgrind-out-file=/dev/null", f"--toggle-collect=istrovell_{call}"]
+    done = output(words + [program, call, image, str(address), str(times)])
+    answer_of(done, expected)
+    return int(re.search(r"Collected : (\d+)", done.stderr).group(1))
+
+
+def instructions(program, call, image, address, expected):
+    """Of the second of two calls: what only a first call does (a heap set up, say) is not counted."""
+    once, twice = (collected(program, call, image, address, expected, times) for times in (1, 2))
+    return twice - once
+
+
+def written(directory, name, pages):
+    path = os.path.join(directory, name)
+    with open(path, "wb") as file:
+        file.write(b"".join(pages))
+    return path
+
+
+def measure_instructions(directory):
+    counts = {}
+    for pages in PAGES:
+        for name, call, image, address, expected in cases(pages):
+            path = written(directory, "image", image)
+            for which in ("library", "second"):
+                program = os.path.join(directory, which)
+                counts[name, pages, which] = instructions(program, call, path, address, expected)
+            print(f"{name}, {pages} pages", file=sys.stderr)
+    return counts
+
+
+def measure_stack(directory):
+    """The most that any of the cases uses, by exported call."""
+    used = {}
+    for pages in PAGES:
+        found = cases(pages)
+        image, address = found[0][2:4]
+        others = [(call, call, image, address, (0, None)) for call in ("format", "blank_read", "lookup")]
+        for _, call, image, address, expected in found + others:
+            path = written(directory, "image", image)
+            done = output([os.path.join(directory, "library"), call, path, str(address), "stack"])
+            used[call, pages] = max(used.get((call, pages), 0), answer_of(done, expected))
+    return used
+
+
+def table(head, rows):
+    lines = ["| " + " | ".join(head) + " |", "|---" + "|---:" * (len(head) - 1) + "|"]
+    lines += ["| " + " | ".join(row) + " |" for row in rows]
+    return "\n".join(lines)
+
+
+def instruction_table(counts):
+    rows = []
+    for name in dict.fromkeys(name for name, _, _ in counts):
+        for pages in PAGES:
+            library, second = counts[name, pages, "library"], counts[name, pages, "second"]
+            rows.append([name, str(pages), f"{library:,}", f"{second:,}", f"{second / library:.2f}"])
+    return table(["call", "pages", "library", "second", "second / library"], rows)
+
+
+def ratio_table(counts):
+    rows = []
+    for name, limit in LIMITS.items():
+        ratios = [counts[name, pages, "library"] / counts["read", pages, "library"] for pages in PAGES]
+        kept = "yes" if max(ratios) <= limit else "NO"
+        rows.append([f"{name} / read", *(f"{ratio:.2f}" for ratio in ratios), f"{limit}", kept])
+    return table(["ratio", *(f"{pages} pages" for pages in PAGES), "at most", "kept"], rows)
+
+
+def stack_table(used):
+    rows = []
+    for call in ("format", "recover", "write", "read", "blank_read", "lookup"):
+        depths = [used[call, pages] for pages in PAGES]
+        kept = "yes" if max(depths) <= STACK_LIMIT else "NO"
+        rows.append([f"`istrovell_{call}`", *(f"{depth:,}" for depth in depths), f"{STACK_LIMIT:,}", kept])
+    return table(["call", *(f"{pages} pages" for pages in PAGES), "at most", "kept"], rows)
+
+
+def version(*words):
+    return output(list(words)).stdout.splitlines()[0].strip()
+
+
+def report(counts, used):
+    tools = ", ".join([version("rt", "version"), version("rustc", "--version"), version("valgrind", "--version")])
+    return f"""# Benchmarks
+
+Made by `bench/run`, which writes this page. x86-64; {tools}.
+
+## Instructions per call
+
+Counted by callgrind inside the exported function, in a second call, so that nothing is counted that only a first call
+does. {HELD} addresses are held, their records in random order (seed {SEED}); all pages but one are full, and the last slot
+is free for the plain write. `second` is the second implementation of `outside/`, in Rust, built for release: it is
+written to be clear, and not to be fast.
+
+{instruction_table(counts)}
+
+## What a change costs beside a read of the same store
+
+{ratio_table(counts)}
+
+## Bytes of stack
+
+Painted before the call; the return address is counted. `outside/tests/stack.rs` holds each call to the limit on many
+more images.
+
+{stack_table(used)}
+"""
+
+
+def main():
+    directory, path = sys.argv[1:]
+    text = report(measure_instructions(directory), measure_stack(directory))
+    print(text)
+    with open(path, "w") as file:
+        file.write(text)
+
+
+if __name__ == "__main__":
+    main()

@@ -1,0 +1,18 @@
+/* The handset's settings: Istrovell's calls carried to the flash, one step at a time. */
+#ifndef SETTINGS_H
+#define SETTINGS_H
+
+#include "flash.h"
+#include "istrovell.h"
+
+/* An answer with number 0 that is not finished: power failed. */
+
+/* For a new device only. False: power failed. */
+bool settings_format(struct flash *chip);
+
+/* At start-up, before anything else. */
+struct istrovell_stepped settings_start(struct flash *chip);
+
+struct istrovell_stepped settings_set(struct flash *chip, uint16_t address, uint8_t value);
+
+#endif

@@ -1,0 +1,138 @@
+/* Istrovell: a settings store in flash that keeps its word when power fails.
+ *
+ * A setting is one byte at an address 0 to 65,534. At most 192 addresses are held. The store is an image of 2 to 32 pages
+ * of 1,024 bytes, lent to each call by pointer and length.
+ *
+ * WHAT HOLDS OF EVERY CALL
+ *   - Any length and any bytes are lawful input, and the pointer may have any alignment. A length that no store has
+ *     answers ISTROVELL_SIZE; 0 is such a length, and with it the pointer is not followed and may be null. The caller
+ *     answers for this: that the `length` bytes at `image` are there, and that nobody else changes them meanwhile.
+ *   - Only the bytes of the image are read, and only they are changed. A call that refuses (a number other than
+ *     ISTROVELL_OK) changes no byte, and its other members are 0 and false.
+ *   - Every call returns. None keeps anything between calls, takes memory from a heap or waits. The library needs memcpy,
+ *     memmove, memset and memcmp at most, and, as measured on x86-64, no more than 4 KB of stack.
+ *
+ * AT START-UP
+ *   Call istrovell_recover with ISTROVELL_ALL_STEPS, before the first write and after every power failure. It clears away
+ *   what the failure left, and does nothing where there is nothing to do.
+ *     ISTROVELL_OK: go on.
+ *     ISTROVELL_NO_STORE, ISTROVELL_DAMAGED: leave the image as it is and tell the user. Format only a device that is
+ *       known to be new, or when someone who knows what is lost has said so: never because a call refused. A store whose
+ *       format finished, and which only these calls have touched, does not come to this by power failures.
+ *
+ * CARRYING THE STEPS TO FLASH
+ *   The calls change plain bytes in memory. A call that only reads may be lent the mapped flash. A call that changes the
+ *   image is lent a copy in RAM, and the flash driver carries the change over, step by step, in the order of the steps. A
+ *   step programs one half-word (two bytes at an even offset, low byte first, that both read 255) or erases one page.
+ *
+ *   The allowance shows the steps one at a time. With allowance k a call does the first k of its steps and stops, so step k
+ *   is what allowance k changes beyond allowance k - 1, each time from the same image:
+ *
+ *       memcpy(start, flash, length);
+ *       for (uint16_t k = 1;; k++) {
+ *           memcpy(work, start, length);
+ *           answer = istrovell_write(work, length, address, value, k);
+ *           if (answer.number != ISTROVELL_OK)
+ *               return answer;                  // refused: the flash stays
+ *           carry(work);                        // flash and work differ by step k: do it
+ *           if (answer.finished)
+ *               return answer;
+ *       }
+ *
+ *   `carry` looks for the first half-word in which flash and work differ. If there is none, the step changes nothing. If
+ *   work has 65,535 there, it erases that page; else it programs that half-word. Recovery is carried in the same way. The
+ *   steps must not be merged, left out or put in another order: the promise about power failures rests on their order.
+ *
+ *   Format has no allowance. Run it on the copy; then, page by page, erase the page and program its first four bytes; last
+ *   of all program bytes 4 to 7 of page 0. A format that power cut short is begun again: before one has finished, nothing
+ *   is promised.
+ *
+ *   A call that was stopped, by its allowance or by a power failure, is not continued: recover, then call again.
+ *   examples/firmware/settings.c does all of this.
+ */
+#ifndef ISTROVELL_H
+#define ISTROVELL_H
+
+#include <stdbool.h>
+#include <stddef.h>
+#include <stdint.h>
+
+#ifdef __cplusplus
+extern "C" {
+#endif
+
+#define ISTROVELL_PAGE_SIZE 1024u     /* bytes of a page */
+#define ISTROVELL_PAGES_MIN 2u        /* pages of an image, at least */
+#define ISTROVELL_PAGES_MAX 32u       /* and at most */
+#define ISTROVELL_ADDRESS_MAX 65534u  /* the last address */
+#define ISTROVELL_HELD_MAX 192u       /* addresses held at a time, at most */
+#define ISTROVELL_ALL_STEPS 65535u    /* an allowance that no call uses up */
+#define ISTROVELL_PAIRING_ADDRESS 16u /* the pairing code's four digits are here and at the three addresses after it */
+
+/* The answers by number. Where several would fit, the lowest is given. */
+enum istrovell_number {
+    ISTROVELL_OK = 0,        /* done, or stopped by the allowance */
+    ISTROVELL_SIZE = 1,      /* the length is no multiple of 1,024, or not 2 to 32 pages */
+    ISTROVELL_NO_STORE = 2,  /* no page is open: never formatted, or no image of ours */
+    ISTROVELL_DAMAGED = 3,   /* pages contradict each other, none is spare, or more than 192 addresses are held */
+    ISTROVELL_UNCLEAN = 4,   /* a page waits for recovery: recover, then write again */
+    ISTROVELL_ADDRESS = 5,   /* address 65,535 */
+    ISTROVELL_NO_ROOM = 6,   /* the address is not held, and 192 others are */
+    ISTROVELL_ORDER_END = 7, /* a new page is needed and the order of pages is used up, at 4,194,303 */
+    ISTROVELL_NOT_HELD = 8   /* the address is not held */
+};
+
+/* The answer of recovery and write. */
+struct istrovell_stepped {
+    uint8_t number; /* an enum istrovell_number */
+    bool finished;  /* no step is left */
+    uint16_t steps; /* how many steps were done: the call's steps, or the allowance if that is less */
+};
+
+/* The answer of read and blank read. */
+struct istrovell_reading {
+    uint8_t number;
+    uint8_t value;
+};
+
+/* The answer of the pairing lookup. */
+struct istrovell_pairing {
+    uint8_t number;
+    bool paired; /* none of the digits is 255 */
+    uint8_t digit0;
+    uint8_t digit1;
+    uint8_t digit2;
+    uint8_t digit3;
+};
+
+/* Makes the image an empty store with wear 1 on every page, whatever it was. Every setting is lost.
+ * Answers 0 or 1. */
+uint8_t istrovell_format(uint8_t *image, size_t length);
+
+/* Erases each page that is neither in use nor cleared and gives it its wear count, in 3 steps a page. No setting changes.
+ * Answers 0 to 3; 0 with finished false if the allowance ended it. */
+struct istrovell_stepped istrovell_recover(uint8_t *image, size_t length, uint16_t allowance);
+
+/* Puts the value at the address. An address that has the value already takes 0 steps; a free slot 2; a new page 4; a move
+ * of all settings to the spare page at most 388 + 3 x (pages - 1), that is 481 at 32 pages.
+ * Answers 0 to 7; an address that has the value already is tested against 1 to 5 only.
+ *
+ * If power fails in any step, and in any step of the recoveries after it, every other address reads as before, and this
+ * one as before or with the new value; once a step has made it new, a failure at a later step leaves it new. */
+struct istrovell_stepped istrovell_write(uint8_t *image, size_t length, uint16_t address, uint8_t value,
+                                         uint16_t allowance);
+
+/* The value at the address. Answers 0, 1, 2, 3, 5 or 8. Recovery need not have run. */
+struct istrovell_reading istrovell_read(const uint8_t *image, size_t length, uint16_t address);
+
+/* The same with value 255, and number 0, for an address that is not held. Answers 0, 1, 2, 3 or 5. */
+struct istrovell_reading istrovell_blank_read(const uint8_t *image, size_t length, uint16_t address);
+
+/* The blank reads of addresses 16 to 19, and whether they are a pairing code. Answers 0 to 3. */
+struct istrovell_pairing istrovell_lookup(const uint8_t *image, size_t length);
+
+#ifdef __cplusplus
+}
+#endif
+
+#endif

@@ -1,0 +1,174 @@
+//! Stores broken on purpose, most of them among the designs of document 01 that look sound and aren't. A test driver
+//! that lets one of them pass is worth nothing.
+
+use crate::page::*;
+use crate::rules::*;
+use crate::steps::*;
+use crate::word::*;
+use crate::{Pairing, Reading, Second, Stepped, Store};
+
+#[derive(Clone, Copy, Debug, PartialEq, Eq)]
+pub enum Broken {
+    /// A move erases the old pages before it programs the done word.
+    EraseFirst,
+    /// A move copies the old value of the written address after the new one.
+    OldAfterNew,
+    /// A receiving page counts as open.
+    ReceivingIsCurrent,
+    /// The check is the exclusive-or of the first three bytes.
+    ExclusiveOr,
+    /// The base order is not looked at: old pages count until they are erased.
+    OldPagesCount,
+    /// A write within the page programs new, old and new again.
+    Wavering,
+    /// A write takes the first blank slot, which may have slots behind it that are not blank.
+    FirstBlankSlot,
+}
+
+impl Plan for Broken {
+    fn format_steps(&self, image: &[u8]) -> Result<Vec<Step>, u8> {
+        let steps = format_steps(image)?;
+        Ok(if *self == Broken::ExclusiveOr { with_exclusive_or(steps) } else { steps })
+    }
+
+    fn recovery_steps(&self, image: &[u8]) -> Result<Vec<Step>, u8> {
+        let steps = recovery_steps(&self.seen(image))?;
+        Ok(if *self == Broken::ExclusiveOr { with_exclusive_or(steps) } else { steps })
+    }
+
+    fn write_steps(&self, image: &[u8], address: u16, value: u8) -> Result<Vec<Step>, u8> {
+        let seen = self.seen(image);
+        let steps = write_steps(&seen, address, value)?;
+        let old = held(&seen).get(&address).copied();
+        Ok(match (self, old) {
+            (Broken::EraseFirst, _) => erase_first(steps),
+            (Broken::OldAfterNew, Some(old)) => old_after_new(&seen, steps, address, old),
+            (Broken::ExclusiveOr, _) => with_exclusive_or(steps),
+            (Broken::Wavering, Some(old)) => wavering(steps, address, old, value),
+            (Broken::FirstBlankSlot, _) => first_blank_slot(&seen, steps, address, value),
+            _ => steps,
+        })
+    }
+
+    fn seen(&self, image: &[u8]) -> Vec<u8> {
+        let mut seen = image.to_vec();
+        let whole = test_size(image).is_ok();
+        match self {
+            Broken::ReceivingIsCurrent if whole => add_done_words(&mut seen),
+            Broken::ExclusiveOr if whole => translate_exclusive_or(&mut seen),
+            Broken::OldPagesCount if whole => make_all_plain(&mut seen),
+            _ => {}
+        }
+        seen
+    }
+}
+
+fn is_move(steps: &[Step]) -> bool {
+    steps.iter().any(|step| matches!(step, Step::Erase { .. }))
+}
+
+fn erase_first(steps: Vec<Step>) -> Vec<Step> {
+    let Some(first_erase) = steps.iter().position(|step| matches!(step, Step::Erase { .. })) else {
+        return steps;
+    };
+    let (before_done, done) = steps[..first_erase].split_at(first_erase - 2);
+    [before_done, &steps[first_erase..], done].concat()
+}
+
+fn old_after_new(image: &[u8], steps: Vec<Step>, address: u16, old: u8) -> Vec<Step> {
+    if !is_move(&steps) {
+        return steps;
+    }
+    let copied = held(image).len();
+    let (page, _) = cleared_pages(image)[0];
+    let (to_new, rest) = steps.split_at(2 + 2 * copied);
+    [to_new, &record_steps(page, copied, address, old), rest].concat()
+}
+
+fn wavering(steps: Vec<Step>, address: u16, old: u8, new: u8) -> Vec<Step> {
+    let &[Step::Program { offset, .. }, _] = &steps[..] else {
+        return steps;
+    };
+    if offset % PAGE_BYTES + 12 > PAGE_BYTES {
+        return steps;
+    }
+    let words = [record(address, new), record(address, old), record(address, new)];
+    let offsets = [offset, offset + 4, offset + 8];
+    offsets.iter().zip(words).flat_map(|(&offset, word)| program_word_steps(offset, word)).collect()
+}
+
+fn first_blank_slot(image: &[u8], steps: Vec<Step>, address: u16, value: u8) -> Vec<Step> {
+    let active = active_page(image).page;
+    let blank = (0..SLOTS).find(|&slot| is_blank(slot_word(page_at(image, active), slot)));
+    match blank {
+        Some(slot) if !steps.is_empty() => record_steps(active, slot, address, value).to_vec(),
+        _ => steps,
+    }
+}
+
+fn add_done_words(image: &mut [u8]) {
+    for page in image.chunks_mut(PAGE_BYTES) {
+        if state(page) == State::Receiving {
+            let (order, _) = order_and_kind_in(word_at(page, OPENING_OFFSET)).expect("a receiving page has an order");
+            page[DONE_OFFSET..DONE_OFFSET + 4].copy_from_slice(&done_word(order));
+        }
+    }
+}
+
+fn make_all_plain(image: &mut [u8]) {
+    for page in image.chunks_mut(PAGE_BYTES) {
+        if let State::Open { order, .. } = state(page) {
+            page[OPENING_OFFSET..OPENING_OFFSET + 4].copy_from_slice(&order_word(order, PLAIN));
+        }
+    }
+}
+
+/// Words with a passing exclusive-or become sound, the others spoiled (no check is 200), so that the rules can read them.
+fn translate_exclusive_or(image: &mut [u8]) {
+    for word in image.chunks_exact_mut(4) {
+        if *word != BLANK {
+            let passes = word[3] == word[0] ^ word[1] ^ word[2];
+            word[3] = if passes { zero_bits([word[0], word[1], word[2]]) } else { 200 };
+        }
+    }
+}
+
+/// The second half of each word follows its first half in the list.
+fn with_exclusive_or(mut steps: Vec<Step>) -> Vec<Step> {
+    let mut first_half = [0, 0];
+    for step in &mut steps {
+        if let Step::Program { offset, value } = step {
+            let [low, high] = value.to_le_bytes();
+            if *offset % 4 == 0 {
+                first_half = [low, high];
+            } else {
+                *value = u16::from_le_bytes([low, first_half[0] ^ first_half[1] ^ low]);
+            }
+        }
+    }
+    steps
+}
+
+/// A write that does all its steps at allowance 1.
+pub struct Eager;
+
+impl Store for Eager {
+    fn format(&self, image: &mut [u8]) -> u8 {
+        Second.format(image)
+    }
+    fn recover(&self, image: &mut [u8], allowance: u16) -> Stepped {
+        Second.recover(image, allowance)
+    }
+    fn write(&self, image: &mut [u8], address: u16, value: u8, allowance: u16) -> Stepped {
+        Second.write(image, address, value, if allowance == 1 { u16::MAX } else { allowance })
+    }
+    fn read(&self, image: &[u8], address: u16) -> Reading {
+        Second.read(image, address)
+    }
+    fn blank_read(&self, image: &[u8], address: u16) -> Reading {
+        Second.blank_read(image, address)
+    }
+    fn lookup(&self, image: &[u8]) -> Pairing {
+        Second.lookup(image)
+    }
+}

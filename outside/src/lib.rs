@@ -1,0 +1,77 @@
+//! A second settings store, written from document 01 alone: clear and literal rather than fast.
+//!
+//! The rules are in `word` (four bytes), `page` (1,024 bytes) and `rules` (a whole image). The calls are there twice:
+//! `second` does them on the image as it goes, `steps` lists the steps beforehand. The rest serves the tests: `images`
+//! makes images from seeds, `failing` makes steps fail, `guard` lends an image between unreadable pages, and `broken`
+//! has stores that the tests must catch.
+//!
+//! `cargo test --release` tests the second implementation against itself; `ISTROVELL_LIB=directory cargo test --release
+//! --features library` tests the library `libistrovell.a` of that directory against it. ISTROVELL_IMAGES says how many
+//! images `compare` tries; ISTROVELL_SEED runs one seed again, for instance with `--test compare both -- --nocapture`.
+
+pub mod broken;
+pub mod failing;
+pub mod guard;
+pub mod images;
+#[cfg(feature = "library")]
+pub mod library;
+pub mod page;
+pub mod rng;
+pub mod rules;
+pub mod second;
+pub mod steps;
+pub mod word;
+
+pub use second::{blank_read, format, listing, lookup, read, recover, write, Second};
+pub use steps::{do_step, fail_step, format_steps, recovery_steps, write_steps, Plan, Step, Stepwise};
+
+/// The answer of read and blank read.
+#[derive(Clone, Copy, Debug, PartialEq, Eq)]
+pub struct Reading {
+    pub number: u8,
+    pub value: u8,
+}
+
+/// The answer of recovery and write.
+#[derive(Clone, Copy, Debug, PartialEq, Eq)]
+pub struct Stepped {
+    pub number: u8,
+    pub finished: bool,
+    pub steps: u16,
+}
+
+/// The answer of the pairing lookup.
+#[derive(Clone, Copy, Debug, PartialEq, Eq)]
+pub struct Pairing {
+    pub number: u8,
+    pub paired: bool,
+    pub digits: [u8; 4],
+}
+
+impl Reading {
+    pub fn refused(number: u8) -> Reading {
+        Reading { number, value: 0 }
+    }
+}
+
+impl Stepped {
+    pub fn refused(number: u8) -> Stepped {
+        Stepped { number, finished: false, steps: 0 }
+    }
+}
+
+impl Pairing {
+    pub fn refused(number: u8) -> Pairing {
+        Pairing { number, paired: false, digits: [0; 4] }
+    }
+}
+
+/// The six calls. Every test driver takes any `Store`.
+pub trait Store {
+    fn format(&self, image: &mut [u8]) -> u8;
+    fn recover(&self, image: &mut [u8], allowance: u16) -> Stepped;
+    fn write(&self, image: &mut [u8], address: u16, value: u8, allowance: u16) -> Stepped;
+    fn read(&self, image: &[u8], address: u16) -> Reading;
+    fn blank_read(&self, image: &[u8], address: u16) -> Reading;
+    fn lookup(&self, image: &[u8]) -> Pairing;
+}

@@ -1,0 +1,101 @@
+//! The image makers make what the comparison is meant to meet.
+//!
+//! A broken maker that this catches: one whose stores all have few addresses, so that DAMAGED by 193 is never met.
+
+use std::collections::BTreeMap;
+
+use outside::images::image;
+use outside::page::*;
+use outside::rules::*;
+use outside::word::*;
+
+type Counts = BTreeMap<&'static str, u64>;
+
+fn note(counts: &mut Counts, name: &'static str, met: bool) {
+    *counts.entry(name).or_default() += u64::from(met);
+}
+
+fn look_at_pages(image: &[u8], counts: &mut Counts) {
+    for page in image.chunks(PAGE_BYTES) {
+        let state = state(page);
+        let done = word_at(page, DONE_OFFSET);
+        let opening = order_and_kind_in(word_at(page, OPENING_OFFSET));
+        note(counts, "page of wear 0", wear(page) == Some(0));
+        note(counts, "page of wear 65,534", wear(page) == Some(65_534));
+        note(counts, "page of wear 65,535", wear(page) == Some(65_535));
+        note(counts, "sound wear word with another third byte", is_sound(word_at(page, 0)) && wear(page).is_none());
+        note(counts, "opening word of kind 0", opening.is_some_and(|(_, kind)| kind == 0));
+        note(counts, "opening word of kind 3", opening.is_some_and(|(_, kind)| kind == DONE));
+        note(counts, "open page of order 4,194,303", matches!(state, State::Open { order: LAST_ORDER, .. }));
+        note(counts, "receiving page", state == State::Receiving);
+        note(counts, "receiving page, sound done word", state == State::Receiving && is_sound(done));
+        note(
+            counts,
+            "plain page, done word not blank",
+            matches!(state, State::Open { kind: PLAIN, .. }) && !is_blank(done),
+        );
+        note(counts, "slot with address 65,535", slot_word(page, 7)[..2] == [255, 255] && is_sound(slot_word(page, 7)));
+        note(counts, "spoiled slot", is_spoiled(slot_word(page, 7)));
+        let free = free_slot(page).unwrap_or(SLOTS);
+        note(counts, "blank slot in between", (0..free).any(|slot| is_blank(slot_word(page, slot))));
+        note(counts, "page of 255 only", page.iter().all(|&byte| byte == 255));
+    }
+}
+
+fn look_at_store(image: &[u8], counts: &mut Counts) {
+    let used = used_pages(image);
+    let open = states(image).iter().filter(|state| matches!(state, State::Open { .. })).count();
+    note(counts, "two used pages of one order", used.windows(2).any(|pair| pair[0].order == pair[1].order));
+    note(counts, "every page used", used.len() == page_count(image));
+    note(counts, "old open page", open > used.len());
+    if test_store(image).is_err() {
+        let sound = used.len() < page_count(image) && !used.windows(2).any(|pair| pair[0].order == pair[1].order);
+        note(counts, "193 held", sound && held(image).len() == 193);
+        return;
+    }
+    let cleared = cleared_pages(image);
+    let full = free_slot(page_at(image, active_page(image).page)).is_none();
+    let clean = unclean_pages(image).is_empty();
+    let least = cleared.iter().map(|&(_, wear)| wear).min();
+    let ties = cleared.iter().filter(|&&(_, wear)| Some(wear) == least).count();
+    note(counts, "191 held", held(image).len() == 191);
+    note(counts, "192 held", held(image).len() == 192);
+    note(counts, "active page full, one page cleared", full && clean && cleared.len() == 1);
+    note(counts, "active page full, a tie of least wear", full && clean && cleared.len() > 1 && ties > 1);
+    note(counts, "active page full, no tie", full && clean && cleared.len() > 1 && ties == 1);
+    note(counts, "active page full, 192 held", full && clean && held(image).len() == 192);
+    note(counts, "gap in the orders", used.windows(2).any(|pair| pair[0].order > pair[1].order + 1));
+    note(counts, "pages not in the order of their index", used.windows(2).any(|pair| pair[0].page < pair[1].page));
+    for (pages, name) in [(2, "2 pages"), (3, "3 pages"), (8, "8 pages"), (31, "31 pages"), (32, "32 pages")] {
+        note(counts, name, page_count(image) == pages);
+    }
+}
+
+#[test]
+fn the_makers_make_every_case() {
+    let mut counts = Counts::new();
+    let mut wrong_lengths = BTreeMap::new();
+    for seed in 0..5_000 {
+        let image = image(seed);
+        if test_size(&image).is_err() {
+            *wrong_lengths.entry(image.len()).or_insert(0) += 1;
+            continue;
+        }
+        look_at_pages(&image, &mut counts);
+        look_at_store(&image, &mut counts);
+    }
+    println!("wrong lengths: {wrong_lengths:?}");
+    for (name, count) in &counts {
+        println!("{count:6} {name}");
+    }
+    assert!([0, 1, 1_023, 1_024, 1_025, 2_047, 2_049, 32_769, 33_792]
+        .iter()
+        .all(|length| wrong_lengths.contains_key(length)));
+    let rare: Vec<_> = counts.iter().filter(|(_, &count)| count < 5).collect();
+    assert!(rare.is_empty(), "hardly met: {rare:?}");
+}
+
+#[test]
+fn a_seed_determines_its_image() {
+    assert!((0..200).all(|seed| image(seed) == image(seed)));
+}

@@ -1,0 +1,145 @@
+//! Single rules of document 01 beyond its examples, on every store at hand.
+//!
+//! A broken store that these catch: one that takes a receiving page for current, see the last test.
+
+use std::panic::{catch_unwind, AssertUnwindSafe};
+
+use outside::broken::Broken;
+use outside::page::*;
+use outside::rules::*;
+use outside::word::*;
+use outside::*;
+
+fn on_every_store(rule: impl Fn(&dyn Store)) {
+    rule(&Second);
+    rule(&Stepwise(Second));
+    #[cfg(feature = "library")]
+    rule(&library::Library);
+}
+
+/// A page with these header words and these words in its first slots, all else 255.
+fn page_of(wear: Word, opening: Word, done: Word, slots: &[Word]) -> Vec<u8> {
+    let mut page = [wear, opening, done].concat();
+    page.extend(slots.concat());
+    page.resize(PAGE_BYTES, 255);
+    page
+}
+
+fn cleared(wear: u16) -> Vec<u8> {
+    page_of(wear_word(wear), BLANK, BLANK, &[])
+}
+
+fn plain(order: u32, slots: &[Word]) -> Vec<u8> {
+    page_of(wear_word(1), order_word(order, PLAIN), BLANK, slots)
+}
+
+fn moved(order: u32, slots: &[Word]) -> Vec<u8> {
+    page_of(wear_word(1), order_word(order, RECEIVING), done_word(order), slots)
+}
+
+fn reads(store: &dyn Store, pages: &[Vec<u8>], address: u16) -> (u8, u8) {
+    let answer = store.read(&pages.concat(), address);
+    (answer.number, answer.value)
+}
+
+#[test]
+fn page_states() {
+    let wear = wear_word(9);
+    let opening = order_word(6, RECEIVING);
+    assert_eq!(state(&cleared(9)), State::Cleared { wear: 9 });
+    assert_eq!(state(&page_of(wear, BLANK, BLANK, &[BLANK, [255, 255, 255, 254]])), State::Bad);
+    assert_eq!(state(&page_of(BLANK, BLANK, BLANK, &[])), State::Bad);
+    assert_eq!(state(&page_of(sound_word([9, 0, 2]), BLANK, BLANK, &[])), State::Bad);
+    assert_eq!(state(&page_of(sound_word([9, 0, 0]), order_word(6, PLAIN), BLANK, &[])), State::Bad);
+    for done in [BLANK, [0; 4], done_word(6), done_word(7)] {
+        assert_eq!(state(&page_of(wear, order_word(6, PLAIN), done, &[])), State::Open { order: 6, kind: PLAIN });
+    }
+    assert_eq!(state(&page_of(wear, opening, done_word(6), &[])), State::Open { order: 6, kind: RECEIVING });
+    for done in [BLANK, done_word(7), order_word(6, RECEIVING), order_word(6, 0), [27, 0, 0, 255]] {
+        assert_eq!(state(&page_of(wear, opening, done, &[])), State::Receiving);
+    }
+    assert_eq!(state(&page_of(wear, order_word(6, 0), BLANK, &[])), State::Bad);
+    assert_eq!(state(&page_of(wear, order_word(6, DONE), done_word(6), &[])), State::Bad);
+}
+
+#[test]
+fn recovery_counts_wear() {
+    let spoiled = [1, 0, 1, 23];
+    let headers = [wear_word(0), wear_word(65_534), wear_word(65_535), spoiled, BLANK, sound_word([9, 0, 2])];
+    let wears = [1, 65_535, 65_535, 1, 1, 1];
+    on_every_store(|store| {
+        let bad = headers.map(|header| page_of(header, order_word(0, 0), BLANK, &[]));
+        let mut image = [vec![plain(0, &[]), cleared(3)], bad.to_vec()].concat().concat();
+        let after = [vec![plain(0, &[]), cleared(3)], wears.map(cleared).to_vec()].concat().concat();
+        assert_eq!(store.recover(&mut image, 18), Stepped { number: OK, finished: true, steps: 18 });
+        assert!(image == after);
+        assert_eq!(store.recover(&mut image, 0), Stepped { number: OK, finished: true, steps: 0 });
+    });
+}
+
+#[test]
+fn a_new_page_is_the_least_worn_and_lowest() {
+    on_every_store(|store| {
+        let full = plain(0, &[record(5, 1); SLOTS]);
+        let mut image = [cleared(4), cleared(3), full, cleared(3), cleared(65_535)].concat();
+        assert_eq!(store.write(&mut image, 5, 2, 9).steps, 4);
+        assert_eq!(page_at(&image, 1), page_of(wear_word(3), order_word(1, PLAIN), BLANK, &[record(5, 2)]));
+    });
+}
+
+#[test]
+fn only_used_pages_answer() {
+    on_every_store(|store| {
+        let old = plain(3, &[record(5, 1)]);
+        let receiving = page_of(wear_word(1), order_word(9, RECEIVING), BLANK, &[record(5, 7), record(6, 7)]);
+        // A lower order than the base doesn't count, the base order itself and greater ones do.
+        assert_eq!(reads(store, &[old.clone(), moved(4, &[]), cleared(1)], 5), (NOT_HELD, 0));
+        assert_eq!(reads(store, &[plain(5, &[record(5, 2)]), moved(4, &[record(5, 3)]), cleared(1)], 5), (OK, 2));
+        assert_eq!(reads(store, &[old.clone(), receiving.clone(), cleared(1)], 5), (OK, 1));
+        assert_eq!(reads(store, &[old.clone(), receiving, cleared(1)], 6), (NOT_HELD, 0));
+        assert_eq!(reads(store, &[old.clone(), plain(2, &[record(5, 8), record(6, 8)]), cleared(1)], 6), (OK, 8));
+        assert_eq!(reads(store, &[old.clone(), old, cleared(1)], 5), (DAMAGED, 0));
+    });
+}
+
+#[test]
+fn tests_go_in_order() {
+    on_every_store(|store| {
+        let number = |pages: &[Vec<u8>], address, value| store.write(&mut pages.concat(), address, value, 9).number;
+        let full_of_192: Vec<Word> = (0..SLOTS as u16).map(|slot| record(slot.min(191), 1)).collect();
+        let full_of_193: Vec<Word> = (0..SLOTS as u16).map(|slot| record(slot.min(192), 1)).collect();
+        let bad = vec![0; PAGE_BYTES];
+        assert_eq!(number(&[cleared(1), bad.clone()], NO_ADDRESS, 1), NO_STORE);
+        assert_eq!(number(&[plain(0, &full_of_193), bad.clone()], NO_ADDRESS, 1), DAMAGED);
+        assert_eq!(number(&[plain(0, &[]), bad.clone()], NO_ADDRESS, 1), UNCLEAN);
+        assert_eq!(number(&[plain(0, &full_of_192), bad], 0, 1), UNCLEAN);
+        assert_eq!(number(&[plain(LAST_ORDER, &full_of_192), cleared(1)], NO_ADDRESS, 1), ADDRESS);
+        assert_eq!(number(&[plain(LAST_ORDER, &full_of_192), cleared(1)], 500, 1), NO_ROOM);
+        assert_eq!(number(&[plain(LAST_ORDER, &full_of_192), cleared(1)], 0, 2), ORDER_END);
+        assert_eq!(number(&[plain(LAST_ORDER, &full_of_192), cleared(1)], 0, 1), OK);
+        assert_eq!(number(&[plain(LAST_ORDER, &full_of_192[..252]), cleared(1)], 0, 2), OK);
+        assert_eq!(number(&[plain(LAST_ORDER - 1, &full_of_192), cleared(1)], 0, 2), OK);
+    });
+}
+
+#[test]
+fn pairing_is_found_only_whole() {
+    on_every_store(|store| {
+        let digits: Vec<Word> = (16..20).map(|address| record(address, address as u8)).collect();
+        let whole = [plain(0, &digits), cleared(1)].concat();
+        assert_eq!(store.lookup(&whole), Pairing { number: OK, paired: true, digits: [16, 17, 18, 19] });
+        let missing = [plain(0, &digits[..3]), cleared(1)].concat();
+        assert_eq!(store.lookup(&missing), Pairing { number: OK, paired: false, digits: [16, 17, 18, 255] });
+        let blank_held = [plain(0, &[digits, vec![record(17, 255)]].concat()), cleared(1)].concat();
+        assert_eq!(store.lookup(&blank_held), Pairing { number: OK, paired: false, digits: [16, 255, 18, 19] });
+    });
+}
+
+#[test]
+fn broken_stores_are_caught() {
+    let receiving = page_of(wear_word(1), order_word(9, RECEIVING), BLANK, &[record(5, 7)]);
+    let pages = [plain(3, &[record(5, 1)]), receiving, cleared(1)];
+    assert_eq!(reads(&Second, &pages, 5), (OK, 1));
+    let broken = Stepwise(Broken::ReceivingIsCurrent);
+    assert!(catch_unwind(AssertUnwindSafe(|| assert_eq!(reads(&broken, &pages, 5), (OK, 1)))).is_err());
+}

@@ -1,0 +1,155 @@
+//! The stack that each exported call uses: at most 4 KB, on images of 2 and of 32 pages.
+//!
+//! A call runs on a stack of its own that was painted before; how far down it changed the paint is what it used. Two
+//! paints, because a byte that is written with the paint's own value shows nothing. For x86-64 on Linux.
+//!
+//! A broken library that this catches: one that keeps a copy of a few pages on its stack (`a_deep_call_is_felt`).
+
+#![cfg(all(feature = "library", target_arch = "x86_64", unix))]
+
+use std::arch::asm;
+
+use outside::images::{fill_active, image, some_addresses};
+use outside::page::*;
+use outside::rng::Rng;
+use outside::rules::*;
+use outside::*;
+
+const MOST_STACK: usize = 4_096;
+const STACK_BYTES: usize = 1 << 18;
+const PAINTS: [u8; 2] = [0xA5, 0x5A];
+
+// Declared here only for their addresses: `library` has their types.
+extern "C" {
+    fn istrovell_format();
+    fn istrovell_recover();
+    fn istrovell_write();
+    fn istrovell_read();
+    fn istrovell_blank_read();
+    fn istrovell_lookup();
+}
+
+type Function = unsafe extern "C" fn();
+
+/// The exports by name, each with what follows pointer and length in its call.
+fn calls(address: u16, value: u8) -> [(&'static str, Function, [u64; 3]); 6] {
+    let (address, value, all) = (u64::from(address), u64::from(value), u64::from(u16::MAX));
+    [
+        ("format", istrovell_format, [0; 3]),
+        ("recovery", istrovell_recover, [all, 0, 0]),
+        ("write", istrovell_write, [address, value, all]),
+        ("read", istrovell_read, [address, 0, 0]),
+        ("blank read", istrovell_blank_read, [address, 0, 0]),
+        ("lookup", istrovell_lookup, [0; 3]),
+    ]
+}
+
+/// The answer's first byte, its number, and the stack used, the return address included.
+fn call_on(stack: &mut [u128], paint: u8, function: Function, image: &mut [u8], rest: [u64; 3]) -> (u8, usize) {
+    let bytes = std::mem::size_of_val(stack);
+    stack.fill(u128::from_ne_bytes([paint; 16]));
+    let top = stack.as_mut_ptr_range().end;
+    let answer: u64;
+    // SAFETY: the exports take pointer, length and at most three numbers, and answer in one register; `image` lives
+    // through the call, and the stack, aligned to 16, is large and ours.
+    unsafe {
+        asm!(
+            "mov r12, rsp",
+            "mov rsp, {top}",
+            "call {function}",
+            "mov rsp, r12",
+            top = in(reg) top,
+            function = in(reg) function,
+            in("rdi") image.as_mut_ptr(),
+            in("rsi") image.len(),
+            in("rdx") rest[0],
+            in("rcx") rest[1],
+            in("r8") rest[2],
+            lateout("rax") answer,
+            out("r12") _,
+            clobber_abi("C"),
+        );
+    }
+    let untouched = stack.iter().flat_map(|word| word.to_ne_bytes()).take_while(|&byte| byte == paint).count();
+    assert!(untouched > 0, "the stack overflowed");
+    (answer as u8, bytes - untouched)
+}
+
+/// The stack that the call uses on this image.
+fn used(stack: &mut [u128], function: Function, image: &[u8], rest: [u64; 3]) -> (u8, usize) {
+    let measured = PAINTS.map(|paint| call_on(stack, paint, function, &mut image.to_vec(), rest));
+    assert_eq!(measured[0].0, measured[1].0);
+    (measured[0].0, measured[0].1.max(measured[1].1))
+}
+
+fn painted_stack() -> Vec<u128> {
+    vec![0; STACK_BYTES / 16]
+}
+
+/// Images of this many pages: the first of the seeds that have it, and a store before each kind of write.
+fn images_of(pages: usize, count: usize) -> Vec<Vec<u8>> {
+    let is_of = |image: &Vec<u8>| image.len() == pages * PAGE_BYTES;
+    let mut images: Vec<Vec<u8>> = (0..).map(image).filter(is_of).take(count).collect();
+    images.extend(full_stores(pages));
+    images
+}
+
+/// A store of 192 addresses with one page used and full, and so on to all but one: the last write moves.
+fn full_stores(pages: usize) -> Vec<Vec<u8>> {
+    let mut rng = Rng::new(pages as u64);
+    let addresses = some_addresses(&mut rng, MOST_HELD);
+    let mut image = vec![0; pages * PAGE_BYTES];
+    format(&mut image);
+    for &address in &addresses {
+        assert!(write(&mut image, address, rng.byte(), u16::MAX).finished);
+    }
+    let mut images = Vec::new();
+    for _ in 1..pages {
+        fill_active(&mut image, SLOTS, &addresses, &mut rng);
+        images.push(image.clone());
+        let value = read(&image, addresses[0]).value.wrapping_add(1);
+        assert!(write(&mut image, addresses[0], value, u16::MAX).finished);
+    }
+    images
+}
+
+#[test]
+fn each_call_uses_at_most_4_kb() {
+    let mut stack = painted_stack();
+    for (pages, count) in [(2, 300), (32, 40)] {
+        let mut most = [0; 6];
+        let mut numbers = [false; 9];
+        for image in images_of(pages, count) {
+            let address = if test_store(&image).is_ok() { held(&image).into_keys().next() } else { None }.unwrap_or(7);
+            let other = blank_read(&image, address).value.wrapping_add(1);
+            for (index, (name, function, rest)) in calls(address, other).into_iter().enumerate() {
+                let (number, depth) = used(&mut stack, function, &image, rest);
+                assert!(depth <= MOST_STACK, "{name} at {pages} pages used {depth} bytes of stack");
+                most[index] = depth.max(most[index]);
+                numbers[usize::from(number)] = true;
+            }
+        }
+        assert!(numbers[usize::from(OK)] && numbers[usize::from(DAMAGED)] && numbers[usize::from(UNCLEAN)]);
+        println!("bytes of stack at {pages} pages, format, recovery, write, read, blank read, lookup: {most:?}");
+    }
+}
+
+/// A move at 32 pages is among the images: the longest call there is.
+#[test]
+fn the_longest_write_is_measured() {
+    let image = full_stores(32).pop().unwrap();
+    let address = held(&image).into_keys().next().unwrap();
+    let steps = write_steps(&image, address, read(&image, address).value.wrapping_add(1)).unwrap();
+    assert_eq!(steps.len(), 481);
+}
+
+unsafe extern "C" fn deep() {
+    let mut bytes = [0u8; 2 * MOST_STACK];
+    std::hint::black_box(&mut bytes);
+}
+
+#[test]
+fn a_deep_call_is_felt() {
+    let (_, depth) = used(&mut painted_stack(), deep, &[], [0; 3]);
+    assert!(depth > 2 * MOST_STACK, "{depth}");
+}
