@@ -3,22 +3,18 @@
 use reading::Pairing;
 use reading::Reading;
 use writing::Stepped;
-ghost use mathlib.Core.Path.{_≡_};
-ghost use Rattle.rules.specs.Call.{format, recover, write, read, blank-read, lookup};
-ghost use Rattle.reading.specs.Answers.{as-reading, as-pairing};
-ghost use Rattle.writing.specs.Answers.{as-stepped};
+ghost use Rattle.istrovell.specs.Demands.{Formats, Recovers, Writes, Reads, BlankReads, Looks};
 
 #[no_mangle]
 pub extern "C" fn istrovell_format(image: &mut [u8]) -> u8
-    ensures { λ r. ⌜ r ≡ format (now (image .entry)) .number ⌝ }
-    ensures { λ r. ⌜ now (image .exit) ≡ format (now (image .entry)) .image ⌝ }
+    ensures { λ r. ⌜ Formats (now (image .entry)) r (now (image .exit)) ⌝ }
 {
     writing::format(image)
 }
 
 #[no_mangle]
 pub extern "C" fn istrovell_recover(image: &mut [u8], allowance: u16) -> Stepped
-    ensures { λ r. ⌜ as-stepped r (now (image .exit)) ≡ recover allowance (now (image .entry)) ⌝ }
+    ensures { λ r. ⌜ Recovers allowance (now (image .entry)) r (now (image .exit)) ⌝ }
 {
     writing::recover(image, allowance)
 }
@@ -30,28 +26,28 @@ pub extern "C" fn istrovell_write(
     value: u8,
     allowance: u16,
 ) -> Stepped
-    ensures { λ r. ⌜ as-stepped r (now (image .exit)) ≡ write address value allowance (now (image .entry)) ⌝ }
+    ensures { λ r. ⌜ Writes address value allowance (now (image .entry)) r (now (image .exit)) ⌝ }
 {
     writing::write(image, address, value, allowance)
 }
 
 #[no_mangle]
 pub extern "C" fn istrovell_read(image: &[u8], address: u16) -> Reading
-    ensures { λ r. ⌜ as-reading r ≡ read address (now (image .entry)) ⌝ }
+    ensures { λ r. ⌜ Reads address (now (image .entry)) r ⌝ }
 {
     reading::read(image, address)
 }
 
 #[no_mangle]
 pub extern "C" fn istrovell_blank_read(image: &[u8], address: u16) -> Reading
-    ensures { λ r. ⌜ as-reading r ≡ blank-read address (now (image .entry)) ⌝ }
+    ensures { λ r. ⌜ BlankReads address (now (image .entry)) r ⌝ }
 {
     reading::blank_read(image, address)
 }
 
 #[no_mangle]
 pub extern "C" fn istrovell_lookup(image: &[u8]) -> Pairing
-    ensures { λ r. ⌜ as-pairing r ≡ lookup (now (image .entry)) ⌝ }
+    ensures { λ r. ⌜ Looks (now (image .entry)) r ⌝ }
 {
     reading::lookup(image)
 }

@@ -1,5 +1,5 @@
 -- What each way of a write means: the number, the steps, and that they may be done. Assumes nothing.
-use Prim.Native.Nat.{ℕ, zero, suc, _+_, _*_, _≤_, _<_, min}
+use Prim.Native.Nat.{ℕ, zero, suc, _+_, _-_, _*_, _≤_, _<_, min}
 use mathlib.Core.Path.{_≡_, refl, sym, ap, _∙_, subst}
 use mathlib.Core.Bool.{Bool, true, false, cond, not}
 use mathlib.Core.List.{List, [], _∷_, _++_}
@@ -11,18 +11,19 @@ use borrow.Author.Tests.{eqb-true, eqb-false, leb-false}
 use Rattle.rules.specs.Flash.{Step, run}
 use Rattle.rules.specs.Word.{opening-word, done-word, record-word, word-steps}
 use Rattle.rules.specs.Page.{slot-place}
-use Rattle.rules.specs.Store.{Setting, setting, states, is-cleared, active-order, active-index, active-slots, count, settings, value, free-slot}
+use Rattle.rules.specs.Store.{Setting, setting, states, is-cleared, active-order, active-index, active-slots, count, settings, held, value, free-slot}
 use Rattle.rules.specs.Steps.{but, copies, copy-steps, append-steps, open-steps, move-steps, write-steps, taken, has-free-slot, is-value}
-use Rattle.rules.specs.Call.{page-size, page-mark, page-count, pages, store-number, write-number, is-unclean, wrong-address, then, write}
+use Rattle.rules.specs.Call.{page-size, page-mark, page-count, pages, store-number, write-number, is-unclean, is-held, no-room, wrong-address, then, write}
 use Rattle.rules.proofs.Truth.{by-cases, failed}
 use Rattle.rules.proofs.Plans.{AllAllowed, allowed-take}
-use Rattle.rules.proofs.Settings.{but-length}
-use Rattle.rules.proofs.Held.{held-rising, held-few}
+use Rattle.rules.proofs.Settings.{by-option, but-length, but-length-held}
+use Rattle.rules.proofs.Held.{held-rising, held-few, value-is}
 use Rattle.rules.proofs.Ready.{size-right, right-sizes, append-allowed, open-allowed, move-allowed, taken-within}
 use Rattle.rules.proofs.Answers.{stepped-refused, stepped-done}
 use Rattle.survey.specs.Survey.{marked, other}
 use Rattle.steps.specs.Picked.{picked-steps}
 use Rattle.steps.specs.Copied.{copied}
+use Rattle.steps.proofs.Copies.{word-steps-length}
 use Rattle.store.specs.declared.Store.{Store}
 use Rattle.store.specs.Opened.{Opens}
 use Rattle.choosing.specs.declared.Way.{Way}
@@ -32,7 +33,8 @@ use Rattle.writing.specs.declared.Stepped.{Stepped}
 use Rattle.writing.specs.Answers.{as-stepped}
 use Rattle.writing.specs.Plans.{Does, Tabled, opening-plan, filling-plan, moving-plan}
 use Rattle.writing.proofs.Recovering.{look-count, look-few}
-use Rattle.writing.proofs.Moving.{picked-others, copied-table}
+use Rattle.writing.proofs.Moving.{picked-others, copied-table, moving-long}
+use Rattle.writing.proofs.Parts.{opening-long}
 
 -- ---- an accepted write passed each test
 
@@ -74,6 +76,10 @@ module _ (a v : ℕ) (i : List ℕ) where
   few-copies : store-number i ≡ 0 → length (copies a v (pages i)) ≤ 253
   unfolding copies
   few-copies ok = omega (arith, length-append (but a (settings (pages i))) (setting a v ∷ []), but-length a (settings (pages i)), held-few i ok)
+
+  open-is : open-steps a v (pages i) ≡ opening-plan (taken (pages i)) (active-order (states (pages i)) + 1) a v
+  unfolding open-steps opening-plan
+  open-is = refl
 
   move-is : move-steps page-mark a v (pages i) ≡ moving-plan (taken (pages i)) (active-order (states (pages i)) + 1) (page-count i) (copies a v (pages i)) i
   unfolding move-steps moving-plan filling-plan pages
@@ -208,3 +214,43 @@ module _ (a v n : ℕ) (i : List ℕ) (w : Way) (is : w ≡ way-for a v i) (fits
         let m : Means a v i (Move p o) = means e in
         let c = look-count i (s .look) (h .look) right in
         written a v n i j (moving-plan p o (s .look .count) copying i) r accepted (m .0 .1 ∙ rw (c, copies-are)) d
+
+-- ---- the longest write
+
+held-room : (a v : ℕ) (i : List ℕ) → write-number a v i ≡ 0 → is-value (value a (pages i)) v ≡ false → no-room a (pages i) ≡ false
+unfolding write-number
+held-room a v i ok s =
+    let r = failed (wrong-address a) 4 _ (failed (is-unclean (states (pages i))) 3 _ (both-ok (store-number i) _ ok .1) .1) .1 in
+    failed (no-room a (pages i)) 5 _ (rw s at r) .0
+
+copies-few : (a v : ℕ) (i : List ℕ) → write-number a v i ≡ 0 → is-value (value a (pages i)) v ≡ false → length (copies a v (pages i)) ≤ 192
+unfolding copies no-room is-held held
+copies-few a v i ok s =
+    let few = held-few i (store-right a v i ok) in
+    let l = length-append (but a (settings (pages i))) (setting a v ∷ []) in
+    by-option (value a (pages i))
+    (λ e.
+    let r : leb 192 (length (settings (pages i))) ≡ false = rw e at (held-room a v i ok s) in
+    omega (arith, leb-false 192 (length (settings (pages i))) r, but-length a (settings (pages i))))
+    (λ u e. omega (arith, but-length-held a u (settings (pages i)) (value-is i a ∙ e)))
+
+-- 388 steps and 3 for each page but one, as 01 has it
+pub longest-write : (a v : ℕ) (i : List ℕ) → write-number a v i ≡ 0 → length (write-steps page-mark a v (pages i)) ≤ 388 + 3 * (page-count i - 1)
+unfolding write-steps append-steps
+longest-write a v i ok =
+    by-cases (is-value (value a (pages i)) v) (λ s. rw s (omega arith))
+    (λ s.
+    by-cases (has-free-slot (pages i))
+    (λ f.
+    let two = word-steps-length (active-index (states (pages i))) (slot-place (free-slot (active-slots (pages i)))) (record-word a v) in
+    rw (s, f) (omega arith))
+    (λ f.
+    by-cases (leb 2 (count is-cleared (states (pages i))))
+    (λ c. let four = opening-long (taken (pages i)) (active-order (states (pages i)) + 1) a v 0 i in let e = ap length (open-is a v i) in rw (s, f, c) (omega arith))
+    (λ c.
+    let right = store-right a v i ok in
+    let inside = taken-within i right (none-unclean a v i ok) in
+    let m = moving-long (taken (pages i)) (active-order (states (pages i)) + 1) (page-count i) (copies a v (pages i)) i inside in
+    let e = ap length (move-is a v i) in
+    let few = copies-few a v i ok s in
+    rw (s, f, c) (omega arith))))
