@@ -7,12 +7,12 @@ use mathlib.Core.List.{List, [], _∷_}
 use native.Mathlib.Omega.{arith}
 use lib.ListN.{length, getD, take, drop}
 use lib.Dec.{eqb, leb}
-use borrow.Author.Tests.{eqb-true, eqb-false, ne-eqb}
+use borrow.Author.Tests.{eqb-true, eqb-false}
 use Rattle.rules.specs.Flash.{Step, after, run}
-use Rattle.rules.specs.Call.{page-size, page-mark, page-count, pages, wrong-size, store-number, write-number, read-number, blank-read-number, accepted, OK, SIZE, Stepped, Reading, Pairing, Formatted, format, stepped, recover, write, read, blank-read, lookup}
+use Rattle.rules.specs.Call.{page-size, page-mark, page-count, pages, wrong-size, store-number, write-number, read-number, blank-read-number, OK, SIZE, Stepped, Reading, Pairing, Formatted, format, stepped, recover, write, read, blank-read, lookup}
 use Rattle.rules.specs.Steps.{format-steps, recovery-steps, write-steps}
 use Rattle.rules.proofs.Truth.{by-cases}
-use Rattle.rules.proofs.Answers.{format-refused, format-done, stepped-refused, stepped-done, lookup-refused, lookup-done}
+use Rattle.rules.proofs.Answers.{not-accepted, format-refused, format-done, stepped-refused, stepped-done, lookup-refused, lookup-done}
 use Rattle.promise.specs.Promise.{InUse, Left, between, failing, later, Recoveries, Cut, Promise, finds, recovery-of, write-of}
 use Rattle.promise.proofs.Kept.{kept-promise, found-again}
 use Rattle.reading.specs.declared.Reading.{Reading as Read}
@@ -42,10 +42,6 @@ module _ (number n : ℕ) (ss : List Step) (i : List ℕ) (r : Answer) (j : List
       let e = h ∙ stepped-done number n ss i (sym its-number ∙ ok) in
       (ap (λ (s : Stepped). s .image) e, ap (λ (s : Stepped). s .steps) e, ap (λ (s : Stepped). s .finished) e)
 
-refused-number : (n : ℕ) → (n ≡ OK → ⊥) → accepted n ≡ false
-unfolding accepted
-refused-number n ne = ne-eqb n 0 ne
-
 -- ---- demand 1
 
 module _ (i : List ℕ) where
@@ -57,11 +53,11 @@ module _ (i : List ℕ) where
 
   read-value : (a : ℕ) (r : Read) → Reads a i r → (r .number ≡ read-number a i) × ((r .number ≡ OK → ⊥) → r .value ≡ 0)
   unfolding read
-  read-value a r h = (ap (λ (q : Reading). q .number) h, λ ne. ap (λ (q : Reading). q .value) h ∙ rw (refused-number (read-number a i) (λ z. ne (ap (λ (q : Reading). q .number) h ∙ z))))
+  read-value a r h = (ap (λ (q : Reading). q .number) h, λ ne. ap (λ (q : Reading). q .value) h ∙ rw (not-accepted (read-number a i) (λ z. ne (ap (λ (q : Reading). q .number) h ∙ z))))
 
   blank-value : (a : ℕ) (r : Read) → BlankReads a i r → (r .number ≡ blank-read-number a i) × ((r .number ≡ OK → ⊥) → r .value ≡ 0)
   unfolding blank-read
-  blank-value a r h = (ap (λ (q : Reading). q .number) h, λ ne. ap (λ (q : Reading). q .value) h ∙ rw (refused-number (blank-read-number a i) (λ z. ne (ap (λ (q : Reading). q .number) h ∙ z))))
+  blank-value a r h = (ap (λ (q : Reading). q .number) h, λ ne. ap (λ (q : Reading). q .value) h ∙ rw (not-accepted (blank-read-number a i) (λ z. ne (ap (λ (q : Reading). q .number) h ∙ z))))
 
   look-number : (r : Pair) → Looks i r → (r .number ≡ store-number i) × ((r .number ≡ OK → ⊥) → as-pairing r ≡ record { number = r .number; paired = false; digits = 0 ∷ 0 ∷ 0 ∷ 0 ∷ [] })
   look-number r h =

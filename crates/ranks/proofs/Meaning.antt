@@ -173,11 +173,11 @@ one-listed b m o n f q r place is last rest =
       under-snoc (length ps) (line rs (o + 1) n) (length f) (rest .1) l,
     )
 
-newest-is : (m : ℕ) (rs : List ℕ) → (greatest-below m rs ≡ 0 → ⊥) → newest m rs ≡ place-of (greatest-below m rs) rs
+pub newest-is : (m : ℕ) (rs : List ℕ) → (greatest-below m rs ≡ 0 → ⊥) → newest m rs ≡ place-of (greatest-below m rs) rs
 unfolding newest
 newest-is m rs ne = rw (ne-eqb (greatest-below m rs) 0 ne)
 
-place-holds : (x : ℕ) (xs : List ℕ) → among x xs ≡ true → getD xs (place-of x xs) 0 ≡ x
+pub place-holds : (x : ℕ) (xs : List ℕ) → among x xs ≡ true → getD xs (place-of x xs) 0 ≡ x
 unfolding among place-of
 place-holds x [] h = not-both h refl
 place-holds x (y ∷ xs) h =

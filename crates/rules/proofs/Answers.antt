@@ -15,7 +15,7 @@ use Rattle.rules.specs.Call.{page-size, page-mark, page-count, pages, wr
 
 -- ---- numbers
 
-not-accepted : (n : ℕ) → (n ≡ 0 → ⊥) → accepted n ≡ false
+pub not-accepted : (n : ℕ) → (n ≡ 0 → ⊥) → accepted n ≡ false
 unfolding accepted
 not-accepted n h = ne-eqb n 0 h
 

@@ -21,7 +21,7 @@ use Rattle.ranks.specs.Ranks.{ranks}
 use Rattle.ranks.specs.Places.{taken-places}
 use Rattle.ranks.proofs.Meaning.{count-places}
 use Rattle.survey.specs.Survey.{spare, spares, marked, neither-at}
-use Rattle.survey.proofs.Marks.{unclean-mark}
+use Rattle.survey.proofs.Marks.{unspared, unclean-mark}
 use Rattle.steps.specs.Picked.{picked-steps}
 use Rattle.store.specs.declared.Look.{Look}
 use Rattle.store.specs.Look.{Looks}
@@ -60,14 +60,6 @@ renewals-length mark test k (x ∷ ps) =
 
 -- ---- what the look tells of the pages
 
-spare-none : (s : State) → eqb (spare s) 0 ≡ not (is-cleared s)
-unfolding spare is-cleared
-spare-none (cleared n) = ne-eqb (n + 1) 0 (λ e. omega arith)
-spare-none (open₁ o) = refl
-spare-none (open₂ o) = refl
-spare-none receiving = refl
-spare-none bad = refl
-
 module _ (i : List ℕ) (look : Look) (h : Looks i look) (ok : store-number i ≡ 0) where
   ss : List State
   ss = states (pages i)
@@ -92,7 +84,7 @@ module _ (i : List ℕ) (look : Look) (h : Looks i look) (ok : store-number i �
   cleared-count c e =
       let l = states-long in
       let m = right-sizes i sized .most in
-      e ∙ ap (λ (x : List ℕ). taken-places (take 32 x)) (h .spares sized) ∙ count-places is-cleared spare spare-none (states (pages i)) (omega arith)
+      e ∙ ap (λ (x : List ℕ). taken-places (take 32 x)) (h .spares sized) ∙ count-places is-cleared spare unspared (states (pages i)) (omega arith)
 
   pub counted-all : (c : ℕ) → c ≡ count is-cleared (states (pages i)) → look .used + c + count (unclean (base (states (pages i)))) (states (pages i)) ≡ look .count
   counted-all c e =

@@ -1,0 +1,4 @@
+pub mod Appending
+pub mod Decimal
+pub mod Lines
+pub mod Told

@@ -1,0 +1,148 @@
+// The listing of a store: its text, written into a buffer that is lent. Each function appends at a place and gives the place
+// behind what it wrote.
+use settings::Settings;
+use store::Look;
+ghost use mathlib.Core.Path.{_≡_};
+ghost use mathlib.Core.List.{List, [], _∷_, _++_};
+ghost use Prim.Native.Nat.{_+_, _-_, _*_, _≤_, _<_};
+ghost use lib.ListN.{length};
+ghost use Rattle.rules.specs.Store.{Setting};
+ghost use Rattle.rules.specs.Listing.{decimal, text-refused, line-end, setting-lines, listing};
+ghost use Rattle.settings.specs.Held.{Holds};
+ghost use Rattle.lines.specs.Appended.{Appends, Written, pages-part, order-part, top-rank, told-line, setting-line};
+
+fn put_byte(out: &mut [u8], at: usize, byte: u8) -> usize
+    requires { ⌜ at < length (now out) ⌝ }
+    ensures { λ r. ⌜ Appends (now (out .entry)) at (byte ∷ []) (now (out .exit)) r ⌝ }
+{
+    out[at] = byte;
+    at + 1
+}
+
+fn put_text(out: &mut [u8], at: usize, text: &[u8]) -> usize
+    requires { ⌜ at + length (now text) ≤ length (now out) ⌝ }
+    ensures { λ r. ⌜ Appends (now (out .entry)) at (now (text .entry)) (now (out .exit)) r ⌝ }
+{
+    let mut i = 0;
+    while i < text.len() {
+        out[at + i] = text[i];
+        i += 1;
+    }
+    at + i
+}
+
+// A number in decimal digits: those of its tenth, then its last one.
+fn put_number(out: &mut [u8], at: usize, n: u32) -> usize
+    requires { ⌜ (n < 100000000) × (at + 8 ≤ length (now out)) ⌝ }
+    ensures { λ r. ⌜ Appends (now (out .entry)) at (decimal n) (now (out .exit)) r ⌝ }
+{
+    if n < 10 {
+        return put_byte(out, at, 48 + n as u8);
+    }
+    let next = put_number(out, at, n / 10);
+    put_byte(out, next, 48 + (n % 10) as u8)
+}
+
+// A text and a number behind it.
+fn put_field(out: &mut [u8], at: usize, text: &[u8], n: u32) -> usize
+    requires { ⌜ (n < 100000000) × (at + length (now text) + 8 ≤ length (now out)) ⌝ }
+    ensures { λ r. ⌜ Appends (now (out .entry)) at (now (text .entry) ++ decimal n) (now (out .exit)) r ⌝ }
+{
+    let next = put_text(out, at, text);
+    put_number(out, next, n)
+}
+
+// The line of one setting.
+fn put_setting(out: &mut [u8], at: usize, address: u16, value: u8) -> usize
+    requires { ⌜ at + 18 ≤ length (now out) ⌝ }
+    ensures { λ r. ⌜ Appends (now (out .entry)) at (setting-line address value) (now (out .exit)) r ⌝ }
+{
+    let behind_address = put_number(out, at, address as u32);
+    let behind_value = put_field(out, behind_address, b" ", value as u32);
+    put_byte(out, behind_value, 10)
+}
+
+// The lines of the settings, in the arrays' order.
+fn put_settings(out: &mut [u8], at: usize, s: Settings) -> usize
+    requires { ⌜ (s .held ≤ 192) × (at + s .held * 18 ≤ length (now out)) ⌝ }
+    ensures { λ r. ⌜ ((t : List Setting) → Holds (s .addresses) (s .values) (s .held) t → Appends (now (out .entry)) at (setting-lines t) (now (out .exit)) r) ⌝ }
+{
+    let held = s.held;
+    let mut end = at;
+    let mut i = 0;
+    while i < held {
+        end = put_setting(out, end, s.addresses[i], s.values[i]);
+        i += 1;
+    }
+    end
+}
+
+// The first three of the five numbers of line one.
+fn put_pages(out: &mut [u8], at: usize, count: u32, used: u32, cleared: u32) -> usize
+    requires { ⌜ (count < 100000000) × (used < 100000000) × (cleared < 100000000) ⌝ }
+    requires { ⌜ at + 45 ≤ length (now out) ⌝ }
+    ensures { λ r. ⌜ Appends (now (out .entry)) at (pages-part count used cleared) (now (out .exit)) r ⌝ }
+{
+    let behind_count = put_field(out, at, b"pages ", count);
+    let behind_used = put_field(out, behind_count, b" used ", used);
+    put_field(out, behind_used, b" cleared ", cleared)
+}
+
+// The other two, and the line's end.
+fn put_order(out: &mut [u8], at: usize, order: u32, held: u32) -> usize
+    requires { ⌜ (order < 100000000) × (held < 100000000) × (at + 30 ≤ length (now out)) ⌝ }
+    ensures { λ r. ⌜ Appends (now (out .entry)) at (order-part order held) (now (out .exit)) r ⌝ }
+{
+    let behind_order = put_field(out, at, b" order ", order);
+    let behind_held = put_field(out, behind_order, b" held ", held);
+    put_byte(out, behind_held, 10)
+}
+
+// The order of the newest page.
+fn newest_order(ranks: &[u32; 32]) -> u32
+    requires { ⌜ (top-rank (now ranks) ≡ 0 → ⊥) ⌝ }
+    ensures { λ r. ⌜ r ≡ top-rank (now (ranks .entry)) - 1 ⌝ }
+    ensures { λ r. ⌜ r < 4194305 ⌝ }
+{
+    ranks[ranks::newest_below(ranks, 4194305)] - 1
+}
+
+// Line one, of a store that has a used page.
+fn put_first(out: &mut [u8], look: Look, held: usize) -> usize
+    requires { ⌜ (look .count ≤ 32) × (look .used ≤ 32) × (held ≤ 192) × (75 ≤ length (now out)) ⌝ }
+    requires { ⌜ (top-rank (look .ranks) ≡ 0 → ⊥) ⌝ }
+    ensures { λ r. ⌜ Appends (now (out .entry)) 0 (told-line look held) (now (out .exit)) r ⌝ }
+{
+    let ranks = look.ranks;
+    let spares = look.spares;
+    let cleared = ranks::count(&spares);
+    let order = newest_order(&ranks);
+    let at = put_pages(out, 0, look.count as u32, look.used as u32, cleared as u32);
+    put_order(out, at, order, held as u32)
+}
+
+// The line of a refusal.
+fn put_refused(out: &mut [u8], number: u8) -> usize
+    requires { ⌜ 17 ≤ length (now out) ⌝ }
+    ensures { λ r. ⌜ Appends (now (out .entry)) 0 (text-refused ++ decimal number ++ line-end) (now (out .exit)) r ⌝ }
+{
+    let at = put_field(out, 0, b"refused ", number as u32);
+    put_byte(out, at, 10)
+}
+
+// The listing of an image of any length and content: its length, and its bytes at the start of the buffer. What lies behind
+// them stays.
+pub fn list(image: &[u8], out: &mut [u8]) -> usize
+    requires { ⌜ 4096 ≤ length (now out) ⌝ }
+    ensures { λ r. ⌜ Written (now (out .entry)) (listing (now (image .entry))) (now (out .exit)) r ⌝ }
+{
+    let store = store::open(image);
+    let number = store.number;
+    if number != 0 {
+        return put_refused(out, number);
+    }
+    let look = store.look;
+    let settings = store.settings;
+    let at = put_first(out, look, settings.held);
+    put_settings(out, at, settings)
+}
