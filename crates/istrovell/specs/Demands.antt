@@ -8,8 +8,8 @@ use lib.ListN.{length, take, drop}
 use lib.Dec.{leb}
 use Rattle.rules.specs.Flash.{run}
 use Rattle.rules.specs.Steps.{format-steps}
-use Rattle.rules.specs.Call.{page-size, page-mark, page-count, wrong-size, store-number, write-number, read-number, blank-read-number, OK, SIZE, format, recover, write, read, blank-read, lookup}
-use Rattle.promise.specs.Promise.{InUse, Left, Recoveries, recovery-of, write-of}
+use Rattle.rules.specs.Call.{page-size, page-mark, page-count, wrong-size, store-number, write-number, read-number, blank-read-number, OK, SIZE, NO-STORE, DAMAGED, UNCLEAN, format, recover, write, read, blank-read, lookup}
+use Rattle.promise.specs.Promise.{Left, recovery-of, write-of}
 use Rattle.reading.specs.declared.Reading.{Reading}
 use Rattle.reading.specs.declared.Pairing.{Pairing}
 use Rattle.reading.specs.Answers.{as-reading, as-pairing}
@@ -64,6 +64,31 @@ pub record OneOutcome (i : List ℕ) : Type 0 where
 abbrev pub only-one-outcome : Type 0
 only-one-outcome = (i : List ℕ) → OneOutcome i
 
+-- The stores that the customer speaks of: "a store whose last format finished and which only our calls have touched since. Power
+-- may have failed in any step of a write or recovery". A call at some allowance left the image `stopped`; the step that comes
+-- next, if there is one, is not begun or fails. With an allowance that no call uses up, no step comes next.
+pub record RecoveryCut (i left : List ℕ) : Type 0 where
+  pub allowance : ℕ
+  pub answer : Stepped
+  pub stopped : List ℕ
+  pub called : Recovers allowance i answer stopped
+  pub fails : Left page-size 0 (drop allowance (recovery-of i)) stopped left
+
+-- the same of an accepted write, which has done so many steps
+pub record WriteCut (a v : ℕ) (i : List ℕ) (steps : ℕ) (left : List ℕ) : Type 0 where
+  pub allowance : ℕ
+  pub answer : Stepped
+  pub stopped : List ℕ
+  pub called : Writes a v allowance i answer stopped
+  pub accepted : answer .number ≡ OK
+  pub counted : steps ≡ answer .steps
+  pub fails : Left page-size 0 (drop allowance (write-of a v i)) stopped left
+
+pub data Touched : List ℕ → Type 0 where
+  formatted : (i j : List ℕ) (r : ℕ) → Formats i r j → r ≡ OK → Touched j
+  recovered : {i j : List ℕ} → Touched i → RecoveryCut i j → Touched j
+  written : {i j : List ℕ} {n : ℕ} (a v : ℕ) → Touched i → WriteCut a v i n j → Touched j
+
 -- Demand 2. "The image after each flash step is the one the rules give. What a finished write puts at an address, a read
 -- finds." And no write is longer than 01 says.
 pub record FollowsTheRules (i : List ℕ) : Type 0 where
@@ -73,33 +98,41 @@ pub record FollowsTheRules (i : List ℕ) : Type 0 where
   pub writes : (a v n : ℕ) (r : Stepped) (j : List ℕ) → Writes a v n i r j → r .number ≡ OK
       → let ss = take n (write-of a v i) in (j ≡ run page-size ss i) × (r .steps ≡ length ss) × (r .finished ≡ leb (length (write-of a v i)) n)
   pub longest : (a v : ℕ) → write-number a v i ≡ OK → length (write-of a v i) ≤ 388 + 3 * (page-count i - 1)
-  pub finds : InUse i → (a v n : ℕ) (r : Stepped) (j : List ℕ) → Writes a v n i r j → r .number ≡ OK → r .finished ≡ true → (q : Reading) → Reads a j q → (q .number ≡ OK) × (q .value ≡ v)
+  pub finds : Touched i → (a v n : ℕ) (r : Stepped) (j : List ℕ) → Writes a v n i r j → r .number ≡ OK → r .finished ≡ true → (q : Reading) → Reads a j q → (q .number ≡ OK) × (q .value ≡ v)
 
 abbrev pub every-step-follows-the-rules : Type 0
 every-step-follows-the-rules = (i : List ℕ) → FollowsTheRules i
 
--- Demand 3. Power fails in a write when `steps` of its steps are done: the call at some allowance left j, the step that
--- comes next is not begun or fails, and any number of recoveries follow, each stopped anywhere or finished.
+-- Demand 3. "Now power fails anywhere in the next accepted write, and perhaps in the recoveries after it."
+pub data Recoveries : (before left : List ℕ) → Type 0 where
+  none : {i : List ℕ} → Recoveries i i
+  more : {i j k : List ℕ} → RecoveryCut i j → Recoveries j k → Recoveries i k
+
 pub record Interrupted (a v : ℕ) (i : List ℕ) (steps : ℕ) (k : List ℕ) : Type 0 where
-  pub allowance : ℕ
-  pub answer : Stepped
-  pub stopped : List ℕ
-  pub called : Writes a v allowance i answer stopped
-  pub accepted : answer .number ≡ OK
-  pub counted : steps ≡ answer .steps
   pub left : List ℕ
-  pub fails : Left page-size 0 (drop allowance (write-of a v i)) stopped left
+  pub write : WriteCut a v i steps left
   pub then : Recoveries left k
+
+abbrev pub Found : Reading → ℕ → Type 0
+Found r v = (r .number ≡ OK) × (r .value ≡ v)
 
 pub record KeepsItsWord (a v : ℕ) (i : List ℕ) : Type 0 where
   -- "Every other address answers as before."
   pub others : (n : ℕ) (k : List ℕ) → Interrupted a v i n k → (x : ℕ) (before after : Reading) → Reads x i before → Reads x k after → (x ≡ a → ⊥) → after ≡ before
   -- "The written address answers as before the write, or with the new value."
-  pub old-or-new : (n : ℕ) (k : List ℕ) → Interrupted a v i n k → (before after : Reading) → Reads a i before → Reads a k after → (after ≡ before) ⊎ ((after .number ≡ OK) × (after .value ≡ v))
+  pub old-or-new : (n : ℕ) (k : List ℕ) → Interrupted a v i n k → (before after : Reading) → Reads a i before → Reads a k after → (after ≡ before) ⊎ Found after v
   -- "If a failure at one step leaves the new value, a failure at any later step leaves it too."
-  pub new-stays : (n m : ℕ) (k l : List ℕ) → Interrupted a v i n k → Interrupted a v i m l → n < m → (one later : Reading) → Reads a k one → Reads a l later → (one .number ≡ OK) × (one .value ≡ v) → (later .number ≡ OK) × (later .value ≡ v)
-  -- and the store is again one that this speaks of
-  pub still-in-use : (n : ℕ) (k : List ℕ) → Interrupted a v i n k → InUse k
+  pub new-stays : (n m : ℕ) (k l : List ℕ) → Interrupted a v i n k → Interrupted a v i m l → n < m → (one other : Reading) → Reads a k one → Reads a l other → Found one v → Found other v
+  -- and what is left is again such a store
+  pub still-ours : (n : ℕ) (k : List ℕ) → Interrupted a v i n k → Touched k
 
 abbrev pub a-store-keeps-its-word : Type 0
-a-store-keeps-its-word = (i : List ℕ) → InUse i → (a v : ℕ) → KeepsItsWord a v i
+a-store-keeps-its-word = (i : List ℕ) → Touched i → (a v : ℕ) → KeepsItsWord a v i
+
+-- and a recovery of such a store is accepted; when it finishes, no write is refused as NO STORE, DAMAGED or UNCLEAN
+pub record Mends (i : List ℕ) : Type 0 where
+  pub accepted : (n : ℕ) (r : Stepped) (j : List ℕ) → Recovers n i r j → r .number ≡ OK
+  pub writable : (n : ℕ) (r : Stepped) (j : List ℕ) → Recovers n i r j → r .finished ≡ true → (a v m : ℕ) (q : Stepped) (k : List ℕ) → Writes a v m j q k → (q .number ≡ NO-STORE → ⊥) × (q .number ≡ DAMAGED → ⊥) × (q .number ≡ UNCLEAN → ⊥)
+
+abbrev pub recovery-mends-a-store : Type 0
+recovery-mends-a-store = (i : List ℕ) → Touched i → Mends i
