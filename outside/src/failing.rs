@@ -21,18 +21,9 @@ pub enum Failing {
     BackChanges,
 }
 
-pub const IN_A_PROGRAM: [Failing; 8] = [
-    Failing::Untouched,
-    Failing::Complete,
-    Failing::HalfStay,
-    Failing::FewStay,
-    Failing::MostStay,
-    Failing::OneStays,
-    Failing::OneChanges,
-    Failing::Blocks,
-];
-
-pub const IN_AN_ERASE: [Failing; 10] = [
+/// The outcomes that a failing step is tried with. A half-word has no front and back of whole words, so a program step has
+/// only the first eight.
+pub const OUTCOMES: [Failing; 10] = [
     Failing::Untouched,
     Failing::Complete,
     Failing::HalfStay,
@@ -47,8 +38,8 @@ pub const IN_AN_ERASE: [Failing; 10] = [
 
 pub fn failings(step: Step) -> &'static [Failing] {
     match step {
-        Step::Program { .. } => &IN_A_PROGRAM,
-        Step::Erase { .. } => &IN_AN_ERASE,
+        Step::Program { .. } => &OUTCOMES[..8],
+        Step::Erase { .. } => &OUTCOMES,
     }
 }
 

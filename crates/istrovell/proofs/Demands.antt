@@ -23,7 +23,7 @@ use Rattle.reading.specs.Answers.{as-reading, as-pairing}
 use Rattle.writing.specs.declared.Stepped.{Stepped as Answer}
 use Rattle.writing.specs.Answers.{as-stepped}
 use Rattle.writing.proofs.Ways.{longest-write}
-use Rattle.istrovell.specs.Demands.{Formats, Recovers, Writes, Reads, BlankReads, Looks, Unchanged, AnswersByNumber, OneOutcome, RecoveryCut, WriteCut, Touched, formatted, recovered, written, FollowsTheRules, Recoveries, none, more, Interrupted, Found, KeepsItsWord, Mends, every-call-answers-by-number, only-one-outcome, every-step-follows-the-rules, a-store-keeps-its-word, recovery-mends-a-store}
+use Rattle.istrovell.specs.Demands.{Formats, Recovers, Writes, Reads, BlankReads, LooksUp, Unchanged, AnswersByNumber, OneOutcome, RecoveryCut, WriteCut, Touched, formatted, recovered, written, FollowsTheRules, Recoveries, none, more, Interrupted, Gives, KeepsItsWord, Mends, every-call-answers-by-number, only-one-outcome, every-step-follows-the-rules, a-store-keeps-its-word, recovery-mends-a-store}
 
 -- ---- recovery and write: an answer with steps
 
@@ -61,7 +61,7 @@ module _ (i : List ℕ) where
   unfolding blank-read
   blank-value a r h = (ap (λ (q : Reading). q .number) h, λ ne. ap (λ (q : Reading). q .value) h ∙ rw (not-accepted (blank-read-number a i) (λ z. ne (ap (λ (q : Reading). q .number) h ∙ z))))
 
-  look-number : (r : Pair) → Looks i r → (r .number ≡ store-number i) × ((r .number ≡ OK → ⊥) → as-pairing r ≡ record { number = r .number; paired = false; digits = 0 ∷ 0 ∷ 0 ∷ 0 ∷ [] })
+  look-number : (r : Pair) → LooksUp i r → (r .number ≡ store-number i) × ((r .number ≡ OK → ⊥) → as-pairing r ≡ record { number = r .number; paired = false; digits = 0 ∷ 0 ∷ 0 ∷ 0 ∷ [] })
   look-number r h =
       let e : r .number ≡ store-number i =
       by-cases (eqb (store-number i) 0)
@@ -203,10 +203,10 @@ module _ (a v : ℕ) (i : List ℕ) (u : Touched i) where
   promise : (n : ℕ) (k : List ℕ) → Interrupted a v i n k → Promise a v i
   promise n k t = kept-promise i (in-use u) a v (write-ok a v i n (t .left) (t .write))
 
-to-finds : (a v : ℕ) (q : Read) (k : List ℕ) → Reads a k q → Found q v → read a k ≡ finds v
+to-finds : (a v : ℕ) (q : Read) (k : List ℕ) → Reads a k q → Gives q v → read a k ≡ finds v
 to-finds a v q k g h = sym g ∙ rw (h .0, h .1)
 
-from-finds : (a v : ℕ) (q : Read) (k : List ℕ) → Reads a k q → read a k ≡ finds v → Found q v
+from-finds : (a v : ℕ) (q : Read) (k : List ℕ) → Reads a k q → read a k ≡ finds v → Gives q v
 from-finds a v q k g h = let e = g ∙ h in (ap (λ (x : Reading). x .number) e, ap (λ (x : Reading). x .value) e)
 
 pub keeps-its-word : a-store-keeps-its-word

@@ -32,8 +32,8 @@ Reads a i r = as-reading r ≡ read a i
 abbrev pub BlankReads : (address : ℕ) (i : List ℕ) (r : Reading) → Type 0
 BlankReads a i r = as-reading r ≡ blank-read a i
 
-abbrev pub Looks : (i : List ℕ) (r : Pairing) → Type 0
-Looks i r = as-pairing r ≡ lookup i
+abbrev pub LooksUp : (i : List ℕ) (r : Pairing) → Type 0
+LooksUp i r = as-pairing r ≡ lookup i
 
 -- Demand 1. "Each call takes any flash image and any address. A call that can't be done answers by number, given exactly when
 -- the table in document 01 says so, and every byte of the image stays." That nothing outside the image is touched and that
@@ -47,7 +47,7 @@ pub record AnswersByNumber (i : List ℕ) : Type 0 where
   pub writes : (a v n : ℕ) (r : Stepped) (j : List ℕ) → Writes a v n i r j → (r .number ≡ write-number a v i) × Unchanged i r j
   pub reads : (a : ℕ) (r : Reading) → Reads a i r → (r .number ≡ read-number a i) × ((r .number ≡ OK → ⊥) → r .value ≡ 0)
   pub blank-reads : (a : ℕ) (r : Reading) → BlankReads a i r → (r .number ≡ blank-read-number a i) × ((r .number ≡ OK → ⊥) → r .value ≡ 0)
-  pub looks : (r : Pairing) → Looks i r → (r .number ≡ store-number i) × ((r .number ≡ OK → ⊥) → as-pairing r ≡ record { number = r .number; paired = false; digits = 0 ∷ 0 ∷ 0 ∷ 0 ∷ [] })
+  pub looks : (r : Pairing) → LooksUp i r → (r .number ≡ store-number i) × ((r .number ≡ OK → ⊥) → as-pairing r ≡ record { number = r .number; paired = false; digits = 0 ∷ 0 ∷ 0 ∷ 0 ∷ [] })
 
 abbrev pub every-call-answers-by-number : Type 0
 every-call-answers-by-number = (i : List ℕ) → AnswersByNumber i
@@ -59,7 +59,7 @@ pub record OneOutcome (i : List ℕ) : Type 0 where
   pub writes : (a v n : ℕ) (r s : Stepped) (j k : List ℕ) → Writes a v n i r j → Writes a v n i s k → (r ≡ s) × (j ≡ k)
   pub reads : (a : ℕ) (r s : Reading) → Reads a i r → Reads a i s → r ≡ s
   pub blank-reads : (a : ℕ) (r s : Reading) → BlankReads a i r → BlankReads a i s → r ≡ s
-  pub looks : (r s : Pairing) → Looks i r → Looks i s → r ≡ s
+  pub looks : (r s : Pairing) → LooksUp i r → LooksUp i s → r ≡ s
 
 abbrev pub only-one-outcome : Type 0
 only-one-outcome = (i : List ℕ) → OneOutcome i
@@ -89,6 +89,10 @@ pub data Touched : List ℕ → Type 0 where
   recovered : {i j : List ℕ} → Touched i → RecoveryCut i j → Touched j
   written : {i j : List ℕ} {n : ℕ} (a v : ℕ) → Touched i → WriteCut a v i n j → Touched j
 
+-- an accepted answer with that value
+abbrev pub Gives : Reading → ℕ → Type 0
+Gives r v = (r .number ≡ OK) × (r .value ≡ v)
+
 -- Demand 2. "The image after each flash step is the one the rules give. What a finished write puts at an address, a read
 -- finds." And no write is longer than 01 says.
 pub record FollowsTheRules (i : List ℕ) : Type 0 where
@@ -98,7 +102,7 @@ pub record FollowsTheRules (i : List ℕ) : Type 0 where
   pub writes : (a v n : ℕ) (r : Stepped) (j : List ℕ) → Writes a v n i r j → r .number ≡ OK
       → let ss = take n (write-of a v i) in (j ≡ run page-size ss i) × (r .steps ≡ length ss) × (r .finished ≡ leb (length (write-of a v i)) n)
   pub longest : (a v : ℕ) → write-number a v i ≡ OK → length (write-of a v i) ≤ 388 + 3 * (page-count i - 1)
-  pub finds : Touched i → (a v n : ℕ) (r : Stepped) (j : List ℕ) → Writes a v n i r j → r .number ≡ OK → r .finished ≡ true → (q : Reading) → Reads a j q → (q .number ≡ OK) × (q .value ≡ v)
+  pub finds : Touched i → (a v n : ℕ) (r : Stepped) (j : List ℕ) → Writes a v n i r j → r .number ≡ OK → r .finished ≡ true → (q : Reading) → Reads a j q → Gives q v
 
 abbrev pub every-step-follows-the-rules : Type 0
 every-step-follows-the-rules = (i : List ℕ) → FollowsTheRules i
@@ -113,16 +117,13 @@ pub record Interrupted (a v : ℕ) (i : List ℕ) (steps : ℕ) (k : List ℕ) :
   pub write : WriteCut a v i steps left
   pub then : Recoveries left k
 
-abbrev pub Found : Reading → ℕ → Type 0
-Found r v = (r .number ≡ OK) × (r .value ≡ v)
-
 pub record KeepsItsWord (a v : ℕ) (i : List ℕ) : Type 0 where
   -- "Every other address answers as before."
   pub others : (n : ℕ) (k : List ℕ) → Interrupted a v i n k → (x : ℕ) (before after : Reading) → Reads x i before → Reads x k after → (x ≡ a → ⊥) → after ≡ before
   -- "The written address answers as before the write, or with the new value."
-  pub old-or-new : (n : ℕ) (k : List ℕ) → Interrupted a v i n k → (before after : Reading) → Reads a i before → Reads a k after → (after ≡ before) ⊎ Found after v
+  pub old-or-new : (n : ℕ) (k : List ℕ) → Interrupted a v i n k → (before after : Reading) → Reads a i before → Reads a k after → (after ≡ before) ⊎ Gives after v
   -- "If a failure at one step leaves the new value, a failure at any later step leaves it too."
-  pub new-stays : (n m : ℕ) (k l : List ℕ) → Interrupted a v i n k → Interrupted a v i m l → n < m → (one other : Reading) → Reads a k one → Reads a l other → Found one v → Found other v
+  pub new-stays : (n m : ℕ) (k l : List ℕ) → Interrupted a v i n k → Interrupted a v i m l → n < m → (one other : Reading) → Reads a k one → Reads a l other → Gives one v → Gives other v
   -- and what is left is again such a store
   pub still-ours : (n : ℕ) (k : List ℕ) → Interrupted a v i n k → Touched k
 

@@ -3,7 +3,7 @@
 use reading::Pairing;
 use reading::Reading;
 use writing::Stepped;
-ghost use Rattle.istrovell.specs.Demands.{Formats, Recovers, Writes, Reads, BlankReads, Looks};
+ghost use Rattle.istrovell.specs.Demands.{Formats, Recovers, Writes, Reads, BlankReads, LooksUp};
 
 #[no_mangle]
 pub extern "C" fn istrovell_format(image: &mut [u8]) -> u8
@@ -47,7 +47,7 @@ pub extern "C" fn istrovell_blank_read(image: &[u8], address: u16) -> Reading
 
 #[no_mangle]
 pub extern "C" fn istrovell_lookup(image: &[u8]) -> Pairing
-    ensures { λ r. ⌜ Looks (now (image .entry)) r ⌝ }
+    ensures { λ r. ⌜ LooksUp (now (image .entry)) r ⌝ }
 {
     reading::lookup(image)
 }
