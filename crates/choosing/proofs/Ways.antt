@@ -20,8 +20,9 @@ use Rattle.rules.proofs.Stores.{length-states, orders-used, count-all}
 use Rattle.rules.proofs.Ready.{right-sizes, size-right, undamaged, ordered, active-within, taken-within}
 use Rattle.rules.proofs.Answers.{write-end, write-ok}
 use Rattle.ranks.specs.Places.{taken-places, newest}
-use Rattle.ranks.proofs.Meaning.{count-places, under-at, length-ranks}
+use Rattle.ranks.proofs.Meaning.{under-at, length-ranks}
 use Rattle.survey.specs.Survey.{spare, spares, chosen}
+use Rattle.survey.proofs.Marks.{count-spares}
 use Rattle.survey.proofs.Choosing.{taken-looked}
 use Rattle.store.specs.declared.Look.{Look}
 use Rattle.store.specs.Look.{Looks}
@@ -49,18 +50,6 @@ unfolding new-page-of new-page
 page-end xs o e = rw (eq-eqb o order-limit e)
 
 -- ---- what the look tells
-
-spare-zero : (s : State) → eqb (spare s) 0 ≡ not (is-cleared s)
-unfolding spare is-cleared
-spare-zero (cleared n) = ne-eqb (n + 1) 0 (λ z. omega arith)
-spare-zero (open₁ o) = refl
-spare-zero (open₂ o) = refl
-spare-zero receiving = refl
-spare-zero bad = refl
-
-pub count-spares : (ss : List State) (xs : List ℕ) → length ss ≤ 32 → xs ≡ spares ss → taken-places (take 32 xs) ≡ count is-cleared ss
-unfolding spares
-count-spares ss xs few is = ap (λ (ys : List ℕ). taken-places (take 32 ys)) is ∙ count-places is-cleared spare spare-zero ss few
 
 other-unclean : (u c n t : ℕ) → u + c + n ≡ t → ltb (u + c) t ≡ not (eqb n 0)
 other-unclean u c n t e =

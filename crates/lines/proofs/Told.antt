@@ -14,10 +14,8 @@ use Rattle.rules.proofs.Answers.{not-accepted}
 use Rattle.rules.proofs.Held.{held-few}
 use Rattle.rules.proofs.Ready.{size-right, ordered, right-sizes}
 use Rattle.ranks.specs.Places.{taken-places}
-use Rattle.ranks.proofs.Meaning.{count-places}
 use Rattle.ranks.proofs.Newest.{greatest-active}
-use Rattle.survey.specs.Survey.{spare, spares}
-use Rattle.survey.proofs.Marks.{unspared}
+use Rattle.survey.proofs.Marks.{count-spares}
 use Rattle.settings.proofs.Tables.{held-length}
 use Rattle.store.specs.declared.Look.{Look}
 use Rattle.store.specs.declared.Store.{Store}
@@ -78,8 +76,7 @@ module _ (i : List ℕ) (r : Store) (o : Opens i r) (z : r .number ≡ 0) where
   told-newest e = omega (arith, top)
 
   cleared-is : taken-places (take 32 (r .look .spares)) ≡ count is-cleared (states (pages i))
-  unfolding spares
-  cleared-is = ap (λ (xs : List ℕ). taken-places (take 32 xs)) (o .look .spares sized) ∙ count-places is-cleared spare unspared (states (pages i)) few-pages
+  cleared-is = count-spares (states (pages i)) (r .look .spares) few-pages (o .look .spares sized)
 
   pub told-first : told-line (r .look) (r .settings .held) ≡ first-line (pages i)
   unfolding told-line pages-part order-part first-line held

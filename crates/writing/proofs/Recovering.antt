@@ -19,9 +19,8 @@ use Rattle.rules.proofs.Ready.{size-right, right-sizes}
 use Rattle.rules.proofs.Answers.{stepped-refused, stepped-done}
 use Rattle.ranks.specs.Ranks.{ranks}
 use Rattle.ranks.specs.Places.{taken-places}
-use Rattle.ranks.proofs.Meaning.{count-places}
 use Rattle.survey.specs.Survey.{spare, spares, marked, neither-at}
-use Rattle.survey.proofs.Marks.{unspared, unclean-mark}
+use Rattle.survey.proofs.Marks.{count-spares, unclean-mark}
 use Rattle.steps.specs.Picked.{picked-steps}
 use Rattle.store.specs.declared.Look.{Look}
 use Rattle.store.specs.Look.{Looks}
@@ -80,11 +79,10 @@ module _ (i : List ℕ) (look : Look) (h : Looks i look) (ok : store-number i �
   look-within = let e = look-count in let s = right-sizes i sized .sized in omega arith
 
   pub cleared-count : (c : ℕ) → c ≡ taken-places (take 32 (look .spares)) → c ≡ count is-cleared (states (pages i))
-  unfolding spares
   cleared-count c e =
       let l = states-long in
       let m = right-sizes i sized .most in
-      e ∙ ap (λ (x : List ℕ). taken-places (take 32 x)) (h .spares sized) ∙ count-places is-cleared spare unspared (states (pages i)) (omega arith)
+      e ∙ count-spares (states (pages i)) (look .spares) (omega arith) (h .spares sized)
 
   pub counted-all : (c : ℕ) → c ≡ count is-cleared (states (pages i)) → look .used + c + count (unclean (base (states (pages i)))) (states (pages i)) ≡ look .count
   counted-all c e =
