@@ -12,7 +12,7 @@ use Rattle.rules.specs.Flash.{bytes-at}
 use Rattle.rules.specs.Word.{words}
 use Rattle.rules.specs.Page.{State, Page, page, slots}
 use Rattle.rules.specs.Store.{base, used, order, add-order, used-orders, greatest, active-order, is-active, index-of, active-index, slots-at}
-use Rattle.rules.specs.Call.{page-size, page-mark, page-count, cut, pages, among}
+use Rattle.rules.specs.Call.{page-size, page-edition, page-count, cut, pages, among}
 use Rattle.rules.proofs.Truth.{by-cases, not-both}
 use Rattle.rules.proofs.Cut.{cut-length, cut-page, words-length, bytes-at-length}
 use Rattle.rules.proofs.Stores.{Under, greatest-among}
@@ -124,9 +124,9 @@ pub slots-in : (k : ℕ) (i : List ℕ) → k < page-count i → slots-at k (pag
 unfolding pages page
 slots-in k i l =
     let n = cut-length page-size (page-count i) i in
-    let m = length-map (cut page-size (page-count i) i) (page page-mark) in
-    slots-there k (pages i) (page page-mark []) (omega arith)
-    ∙ ap (λ (p : Page). p .slots) (List·getD-map (page page-mark) (cut page-size (page-count i) i) k [] ∙ ap (page page-mark) (cut-page page-size (page-count i) k i l))
+    let m = length-map (cut page-size (page-count i) i) (page page-edition) in
+    slots-there k (pages i) (page page-edition []) (omega arith)
+    ∙ ap (λ (p : Page). p .slots) (List·getD-map (page page-edition) (cut page-size (page-count i) i) k [] ∙ ap (page page-edition) (cut-page page-size (page-count i) k i l))
 
 pub slots-many : (at : ℕ) (i : List ℕ) → at + 1024 ≤ length i → length (slots (words (bytes-at at 1024 i))) ≡ 253
 unfolding slots

@@ -22,7 +22,7 @@ use Rattle.rules.proofs.Answers.{write-end, write-ok}
 use Rattle.ranks.specs.Places.{taken-places, newest}
 use Rattle.ranks.proofs.Meaning.{under-at, length-ranks}
 use Rattle.survey.specs.Survey.{spare, spares, chosen}
-use Rattle.survey.proofs.Marks.{count-spares}
+use Rattle.survey.proofs.Picks.{count-spares}
 use Rattle.survey.proofs.Choosing.{taken-looked}
 use Rattle.store.specs.declared.Look.{Look}
 use Rattle.store.specs.Look.{Looks}

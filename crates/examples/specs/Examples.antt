@@ -1,4 +1,4 @@
--- 01, "Examples", those marked P: a single table, under the one statement at its end.
+-- 01, "Examples", those picked P: a single table, under the one statement at its end.
 use Prim.Native.Nat.{ℕ}
 use mathlib.Core.Bool.{Bool, true, false, _&&_}
 use mathlib.Core.List.{List, [], _∷_}

@@ -10,7 +10,7 @@ use lib.Seq.{take-all}
 use lib.Dec.{eqb, leb}
 use borrow.Author.Tests.{eqb-true, eqb-false, leb-true}
 use Rattle.rules.specs.Flash.{Step, after, run}
-use Rattle.rules.specs.Call.{page-size, page-mark, page-count, pages, wrong-size, store-number, write-number, read-number, blank-read-number, OK, SIZE, NO-STORE, DAMAGED, UNCLEAN, Stepped, Reading, Pairing, Formatted, format, stepped, recover, write, read, blank-read, lookup}
+use Rattle.rules.specs.Call.{page-size, page-edition, page-count, pages, wrong-size, store-number, write-number, read-number, blank-read-number, OK, SIZE, NO-STORE, DAMAGED, UNCLEAN, Stepped, Reading, Pairing, Formatted, format, stepped, recover, write, read, blank-read, lookup}
 use Rattle.rules.specs.Steps.{format-steps, recovery-steps, write-steps}
 use Rattle.rules.proofs.Truth.{by-cases}
 use Rattle.rules.proofs.Answers.{not-accepted, format-refused, format-done, stepped-refused, stepped-done, lookup-refused, lookup-done}
@@ -74,8 +74,8 @@ unfolding recover write
 answers-by-number i =
     record {
       formats = format-number i;
-      recovers = λ n r j h. (its-number (store-number i) n (recovery-steps page-mark (pages i)) i r j h, its-refusal (store-number i) n (recovery-steps page-mark (pages i)) i r j h);
-      writes = λ a v n r j h. (its-number (write-number a v i) n (write-steps page-mark a v (pages i)) i r j h, its-refusal (write-number a v i) n (write-steps page-mark a v (pages i)) i r j h);
+      recovers = λ n r j h. (its-number (store-number i) n (recovery-steps page-edition (pages i)) i r j h, its-refusal (store-number i) n (recovery-steps page-edition (pages i)) i r j h);
+      writes = λ a v n r j h. (its-number (write-number a v i) n (write-steps page-edition a v (pages i)) i r j h, its-refusal (write-number a v i) n (write-steps page-edition a v (pages i)) i r j h);
       reads = read-value i;
       blank-reads = blank-value i;
       looks = look-number i;
@@ -168,8 +168,8 @@ follows-the-rules i =
           by-cases (wrong-size i)
           (λ t. absurd (one-not-zero (sym (h .0 ∙ ap (λ (f : Formatted). f .number) (format-refused i t)) ∙ ok)))
           (λ t. h .1 ∙ ap (λ (f : Formatted). f .image) (format-done i t));
-      recovers = λ n r j h. its-steps (store-number i) n (recovery-steps page-mark (pages i)) i r j h;
-      writes = λ a v n r j h. its-steps (write-number a v i) n (write-steps page-mark a v (pages i)) i r j h;
+      recovers = λ n r j h. its-steps (store-number i) n (recovery-steps page-edition (pages i)) i r j h;
+      writes = λ a v n r j h. its-steps (write-number a v i) n (write-steps page-edition a v (pages i)) i r j h;
       longest = λ a v ok. longest-write a v i ok;
       finds = found;
     }
@@ -179,7 +179,7 @@ follows-the-rules i =
 
     found : Touched i → (a v n : ℕ) (r : Answer) (j : List ℕ) → as-stepped r j ≡ write a v n i → r .number ≡ OK → r .finished ≡ true → (q : Read) → Reads a j q → (q .number ≡ OK) × (q .value ≡ v)
     found u a v n r j h ok fin q g =
-        let number : write-number a v i ≡ OK = sym (its-number (write-number a v i) n (write-steps page-mark a v (pages i)) i r j h) ∙ ok in
+        let number : write-number a v i ≡ OK = sym (its-number (write-number a v i) n (write-steps page-edition a v (pages i)) i r j h) ∙ ok in
         let f = found-again i (in-use u) a v n number (sym (ap (λ (s : Stepped). s .finished) h) ∙ fin) in
         let e : as-reading q ≡ finds v = g ∙ ap (read a) (ap (λ (s : Stepped). s .image) h) ∙ f .there in
         (ap (λ (x : Reading). x .number) e, ap (λ (x : Reading). x .value) e)

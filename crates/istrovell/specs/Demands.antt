@@ -8,7 +8,7 @@ use lib.ListN.{length, take, drop}
 use lib.Dec.{leb}
 use Rattle.rules.specs.Flash.{run}
 use Rattle.rules.specs.Steps.{format-steps}
-use Rattle.rules.specs.Call.{page-size, page-mark, page-count, wrong-size, store-number, write-number, read-number, blank-read-number, OK, SIZE, NO-STORE, DAMAGED, UNCLEAN, format, recover, write, read, blank-read, lookup}
+use Rattle.rules.specs.Call.{page-size, page-edition, page-count, wrong-size, store-number, write-number, read-number, blank-read-number, OK, SIZE, NO-STORE, DAMAGED, UNCLEAN, format, recover, write, read, blank-read, lookup}
 use Rattle.promise.specs.Promise.{Left, recovery-of, write-of}
 use Rattle.reading.specs.declared.Reading.{Reading}
 use Rattle.reading.specs.declared.Pairing.{Pairing}
@@ -96,7 +96,7 @@ Gives r v = (r .number ≡ OK) × (r .value ≡ v)
 -- Demand 2. "The image after each flash step is the one the rules give. What a finished write puts at an address, a read
 -- finds." And no write is longer than 01 says.
 pub record FollowsTheRules (i : List ℕ) : Type 0 where
-  pub formats : (r : ℕ) (j : List ℕ) → Formats i r j → r ≡ OK → j ≡ run page-size (format-steps page-mark (page-count i)) i
+  pub formats : (r : ℕ) (j : List ℕ) → Formats i r j → r ≡ OK → j ≡ run page-size (format-steps page-edition (page-count i)) i
   pub recovers : (n : ℕ) (r : Stepped) (j : List ℕ) → Recovers n i r j → r .number ≡ OK
       → let ss = take n (recovery-of i) in (j ≡ run page-size ss i) × (r .steps ≡ length ss) × (r .finished ≡ leb (length (recovery-of i)) n)
   pub writes : (a v n : ℕ) (r : Stepped) (j : List ℕ) → Writes a v n i r j → r .number ≡ OK

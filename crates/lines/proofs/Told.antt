@@ -15,7 +15,7 @@ use Rattle.rules.proofs.Held.{held-few}
 use Rattle.rules.proofs.Ready.{size-right, ordered, right-sizes}
 use Rattle.ranks.specs.Places.{taken-places}
 use Rattle.ranks.proofs.Newest.{greatest-active}
-use Rattle.survey.proofs.Marks.{count-spares}
+use Rattle.survey.proofs.Picks.{count-spares}
 use Rattle.settings.proofs.Tables.{held-length}
 use Rattle.store.specs.declared.Look.{Look}
 use Rattle.store.specs.declared.Store.{Store}

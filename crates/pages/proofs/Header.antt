@@ -33,28 +33,28 @@ slots-at s = drop-words 3 s
 
 -- ---- by the wear word
 
-module _ (mark : ℕ) (s : List ℕ) (h : 4 ≤ length s) {w : Word} (e : w ≡ word-in s 0) where
-  pub wear-absent : is-wear mark w ≡ false → wear-in mark (words s) ≡ none
+module _ (edition : ℕ) (s : List ℕ) (h : 4 ≤ length s) {w : Word} (e : w ≡ word-in s 0) where
+  pub wear-absent : is-wear edition w ≡ false → wear-in edition (words s) ≡ none
   unfolding wear-in
   wear-absent t = rw (wear-at s h, ← e, t)
 
-  pub wear-present : is-wear mark w ≡ true → wear-in mark (words s) ≡ some (low16 w)
+  pub wear-present : is-wear edition w ≡ true → wear-in edition (words s) ≡ some (low16 w)
   unfolding wear-in
   wear-present t = rw (wear-at s h, ← e, t)
 
-  pub no-wear : is-wear mark w ≡ false → state mark (words s) ≡ bad
+  pub no-wear : is-wear edition w ≡ false → state edition (words s) ≡ bad
   unfolding state state-by
   no-wear t = rw (wear-absent t)
 
-  pub with-wear : is-wear mark w ≡ true → state mark (words s) ≡ state-after-wear (words s) (low16 w)
+  pub with-wear : is-wear edition w ≡ true → state edition (words s) ≡ state-after-wear (words s) (low16 w)
   unfolding state state-by
   with-wear t = rw (wear-present t)
 
-  pub renewed-first : is-wear mark w ≡ false → renewed-wear (wear-in mark (words s)) ≡ 1
+  pub renewed-first : is-wear edition w ≡ false → renewed-wear (wear-in edition (words s)) ≡ 1
   unfolding renewed-wear
   renewed-first t = rw (wear-absent t)
 
-  pub renewed-next : is-wear mark w ≡ true → renewed-wear (wear-in mark (words s)) ≡ min (low16 w + 1) 65535
+  pub renewed-next : is-wear edition w ≡ true → renewed-wear (wear-in edition (words s)) ≡ min (low16 w + 1) 65535
   unfolding renewed-wear
   renewed-next t = rw (wear-present t)
 

@@ -19,11 +19,11 @@ pub enum State {
     Bad,
 }
 
-// "sound wear word with third byte 1": the byte is the mark. Here and below the cheap test comes first.
-pub fn is_wear(w: Word, mark: u8) -> bool
-    ensures { λ r. ⌜ r ≡ is-wear mark (as-word w) ⌝ }
+// "sound wear word with third byte 1": the byte is the edition. Here and below the cheap test comes first.
+pub fn is_wear(w: Word, edition: u8) -> bool
+    ensures { λ r. ⌜ r ≡ is-wear edition (as-word w) ⌝ }
 {
-    if w.c != mark {
+    if w.c != edition {
         return false;
     }
     words::is_sound(w)
@@ -95,13 +95,13 @@ fn after_wear(page: &[u8], wear: u16) -> State
     State::Bad
 }
 
-pub fn state_of(page: &[u8], mark: u8) -> State
+pub fn state_of(page: &[u8], edition: u8) -> State
     requires { ⌜ 12 ≤ length (now page) ⌝ }
-    ensures { λ r. ⌜ as-state r ≡ state mark (words (now (page .entry))) ⌝ }
+    ensures { λ r. ⌜ as-state r ≡ state edition (words (now (page .entry))) ⌝ }
     ensures { λ r. ⌜ order (as-state r) < 4194304 ⌝ }
 {
     let wear = words::word_at(page, 0);
-    if is_wear(wear, mark) {
+    if is_wear(wear, edition) {
         return after_wear(page, words::low16(wear));
     }
     State::Bad
@@ -109,12 +109,12 @@ pub fn state_of(page: &[u8], mark: u8) -> State
 
 // "The new wear is one more than that of the sound wear word read before the erase, at most 65,535; a page without such a
 // word gets 1."
-pub fn renewed_wear(page: &[u8], mark: u8) -> u16
+pub fn renewed_wear(page: &[u8], edition: u8) -> u16
     requires { ⌜ 4 ≤ length (now page) ⌝ }
-    ensures { λ r. ⌜ r ≡ renewed-wear (wear-in mark (words (now (page .entry)))) ⌝ }
+    ensures { λ r. ⌜ r ≡ renewed-wear (wear-in edition (words (now (page .entry)))) ⌝ }
 {
     let w = words::word_at(page, 0);
-    if !is_wear(w, mark) {
+    if !is_wear(w, edition) {
         return 1;
     }
     let wear = words::low16(w);

@@ -11,7 +11,7 @@ use borrow.Author.Tests.{eq-eqb, ne-eqb, le-ltb, eqb-true, leb-true, leb-false, 
 use Rattle.rules.specs.Page.{State, cleared, open₁, open₂, receiving, bad, Page, page}
 use Rattle.rules.specs.Store.{states, base, used, is-open, used-orders, Setting, last-of, settings, held, value, put-all, count}
 use Rattle.rules.specs.Steps.{unclean, is-value}
-use Rattle.rules.specs.Call.{page-size, page-mark, page-count, pages, cut, wrong-size, no-store, repeats, all-used, damaged, is-unclean, wrong-address, is-held, no-room, order-end, then, store-number, write-number, blank-read-number, read-number, Reading, accepted, or-value, read, OK, UNCLEAN, ADDRESS, NO-ROOM, ORDER-END, NOT-HELD, held-limit}
+use Rattle.rules.specs.Call.{page-size, page-edition, page-count, pages, cut, wrong-size, no-store, repeats, all-used, damaged, is-unclean, wrong-address, is-held, no-room, order-end, then, store-number, write-number, blank-read-number, read-number, Reading, accepted, or-value, read, OK, UNCLEAN, ADDRESS, NO-ROOM, ORDER-END, NOT-HELD, held-limit}
 use Rattle.rules.proofs.Truth.{failed, by-cases, is-false, not-both}
 use Rattle.rules.proofs.Stores.{length-states, count-open, orders-used, count-used, count-all}
 use Rattle.rules.proofs.Phases.{Pages}
@@ -21,32 +21,32 @@ use Rattle.promise.proofs.Good.{Good, journal-is}
 use Rattle.promise.proofs.Write.{Accepted}
 
 -- the table's rows 2 and 3, of pages
-module _ (mark m n L : ℕ) (J : List Setting) (F : Pages) (g : Good mark (suc (suc (suc m))) n L J F) where
-  used-are : count (used (base (states (told mark F)))) (states (told mark F)) ≡ length (g .used-by)
-  used-are = rw (g .keeps .is-base) (sym (count-used (g .base-order) (told mark F)) ∙ ap length (g .keeps .has-orders))
+module _ (edition m n L : ℕ) (J : List Setting) (F : Pages) (g : Good edition (suc (suc (suc m))) n L J F) where
+  used-are : count (used (base (states (told edition F)))) (states (told edition F)) ≡ length (g .used-by)
+  used-are = rw (g .keeps .is-base) (sym (count-used (g .base-order) (told edition F)) ∙ ap length (g .keeps .has-orders))
 
-  pub has-store : no-store (told mark F) ≡ false
+  pub has-store : no-store (told edition F) ≡ false
   unfolding no-store
   has-store =
-      ne-eqb (count is-open (states (told mark F))) 0
-      (λ z. let a = count-open (base (states (told mark F))) (states (told mark F)) in let c = used-are in let s = g .some in omega arith)
+      ne-eqb (count is-open (states (told edition F))) 0
+      (λ z. let a = count-open (base (states (told edition F))) (states (told edition F)) in let c = used-are in let s = g .some in omega arith)
 
-  pub held-is : held (told mark F) ≡ length (put-all [] J)
+  pub held-is : held (told edition F) ≡ length (put-all [] J)
   unfolding held settings
-  held-is = ap (λ (j : List Setting). length (put-all [] j)) (journal-is mark m n L J F g)
+  held-is = ap (λ (j : List Setting). length (put-all [] j)) (journal-is edition m n L J F g)
 
-  pub value-is : (a : ℕ) → value a (told mark F) ≡ last-of a J
+  pub value-is : (a : ℕ) → value a (told edition F) ≡ last-of a J
   unfolding value
-  value-is a = ap (last-of a) (journal-is mark m n L J F g)
+  value-is a = ap (last-of a) (journal-is edition m n L J F g)
 
-  pub orders-apart : repeats (used-orders (base (states (told mark F))) (states (told mark F))) ≡ false
-  orders-apart = rw (g .keeps .is-base) (rw (orders-used (g .base-order) (told mark F) ∙ g .keeps .has-orders) (g .apart))
+  pub orders-apart : repeats (used-orders (base (states (told edition F))) (states (told edition F))) ≡ false
+  orders-apart = rw (g .keeps .is-base) (rw (orders-used (g .base-order) (told edition F) ∙ g .keeps .has-orders) (g .apart))
 
-  pub not-all-used : all-used (states (told mark F)) ≡ false
+  pub not-all-used : all-used (states (told edition F)) ≡ false
   unfolding all-used
   not-all-used =
-      let l : length (states (told mark F)) ≡ n = length-states (told mark F) ∙ length-map F (page mark) ∙ g .keeps .count in
-      ne-eqb (count (used (base (states (told mark F)))) (states (told mark F))) (length (states (told mark F))) (λ z. let c = used-are in let s = g .spare in omega arith)
+      let l : length (states (told edition F)) ≡ n = length-states (told edition F) ∙ length-map F (page edition) ∙ g .keeps .count in
+      ne-eqb (count (used (base (states (told edition F)))) (states (told edition F))) (length (states (told edition F))) (λ z. let c = used-are in let s = g .spare in omega arith)
 
 -- an image with a good store
 pub record Kept-well (J : List Setting) (i : List ℕ) : Type 0 where
@@ -54,14 +54,14 @@ pub record Kept-well (J : List Setting) (i : List ℕ) : Type 0 where
   pub sized : length i ≡ count * 1024
   pub least : 2 ≤ count
   pub most : count ≤ 32
-  pub good : Good page-mark 256 count held-limit J (cut page-size count i)
+  pub good : Good page-edition 256 count held-limit J (cut page-size count i)
 
 module _ (J : List Setting) (i : List ℕ) (h : Kept-well J i) where
   counted : page-count i ≡ h .count
   unfolding page-count
   counted = let e = h .sized in omega arith
 
-  pub pages-are : pages i ≡ told page-mark (cut page-size (h .count) i)
+  pub pages-are : pages i ≡ told page-edition (cut page-size (h .count) i)
   unfolding pages
   pages-are = rw counted refl
 
@@ -78,10 +78,10 @@ module _ (J : List Setting) (i : List ℕ) (h : Kept-well J i) where
       rw (eq-eqb (length i % 1024) 0 z, le-ltb (page-count i) 2 p, le-ltb 32 (page-count i) q)
 
   pub value-here : (a : ℕ) → value a (pages i) ≡ last-of a J
-  value-here a = rw pages-are (value-is page-mark 253 (h .count) held-limit J (cut page-size (h .count) i) (h .good) a)
+  value-here a = rw pages-are (value-is page-edition 253 (h .count) held-limit J (cut page-size (h .count) i) (h .good) a)
 
   pub held-here : held (pages i) ≡ length (put-all [] J)
-  held-here = rw pages-are (held-is page-mark 253 (h .count) held-limit J (cut page-size (h .count) i) (h .good))
+  held-here = rw pages-are (held-is page-edition 253 (h .count) held-limit J (cut page-size (h .count) i) (h .good))
 
   not-damaged : damaged (pages i) ≡ false
   unfolding damaged
@@ -89,12 +89,12 @@ module _ (J : List Setting) (i : List ℕ) (h : Kept-well J i) where
       let F = cut page-size (h .count) i in
       let l : held (pages i) ≤ held-limit = rw held-here (h .good .few) in
       let e : ltb held-limit (held (pages i)) ≡ false = le-ltb held-limit (held (pages i)) l in
-      rw e (rw (pages-are) (rw (orders-apart page-mark 253 (h .count) held-limit J F (h .good), not-all-used page-mark 253 (h .count) held-limit J F (h .good))))
+      rw e (rw (pages-are) (rw (orders-apart page-edition 253 (h .count) held-limit J F (h .good), not-all-used page-edition 253 (h .count) held-limit J F (h .good))))
 
   -- a recovery is accepted
   pub store-ok : store-number i ≡ OK
   unfolding store-number
-  store-ok = rw (right-size, not-damaged) (rw pages-are (rw (has-store page-mark 253 (h .count) held-limit J (cut page-size (h .count) i) (h .good))))
+  store-ok = rw (right-size, not-damaged) (rw pages-are (rw (has-store page-edition 253 (h .count) held-limit J (cut page-size (h .count) i) (h .good))))
 
 -- the answer of read, by the value that the address has
 unfoldable pub answer : (address : ℕ) → Option ℕ → Reading
@@ -128,13 +128,13 @@ module _ (J : List Setting) (i : List ℕ) (h : Kept-well J i) (a v : ℕ) (ok :
       let rest′ : cond (no-room a (pages i)) NO-ROOM (cond (order-end (pages i)) ORDER-END OK) ≡ 0 = rw (value-here J i h a, s) at rest in
       failed (no-room a (pages i)) 5 _ rest′ .0
 
-  pub accepted-here : is-value (last-of a J) v ≡ false → Accepted page-mark 256 (h .count) held-limit a v J (cut page-size (h .count) i)
+  pub accepted-here : is-value (last-of a J) v ≡ false → Accepted page-edition 256 (h .count) held-limit a v J (cut page-size (h .count) i)
   unfolding is-unclean wrong-address no-room is-held
   accepted-here s =
       let F = cut page-size (h .count) i in
       let b = h .good .base-order in
-      let c : not (eqb (count (unclean (base (states (told page-mark F)))) (states (told page-mark F))) 0) ≡ false = rw (pages-are J i h) at clean-here in
-      let z : count (unclean (base (states (told page-mark F)))) (states (told page-mark F)) ≡ 0 = eqb-true _ 0 (not-false _ c) in
+      let c : not (eqb (count (unclean (base (states (told page-edition F)))) (states (told page-edition F))) 0) ≡ false = rw (pages-are J i h) at clean-here in
+      let z : count (unclean (base (states (told page-edition F)))) (states (told page-edition F)) ≡ 0 = eqb-true _ 0 (not-false _ c) in
       let far : a < 65535 = leb-false 65535 a address-right in
       record {
         good = h .good;

@@ -15,7 +15,7 @@ use Rattle.rules.specs.Word.{Word, word, zeros, check, sound, blank, condition,
 use Rattle.rules.specs.Page.{State, Page, wear-place, opening-place, done-place, slot-place, wear-part, opening-part, done-part, slots, is-wear, wear-in, is-opening, order-in, is-done, all-blank, state-after-wear, state-by, state, page}
 use Rattle.rules.specs.Store.{Setting, setting, states, order₂, base, used, is-cleared, is-open, order, add-order, used-orders, greatest, active-order, is-active, index-of, active-index, add-page, used-pages, insert, oldest-first, add-record, records, all-records, journal, or-else, last-of, value, put, put-all, settings, held, past, free-slot, slots-at, active-slots, count, index}
 use Rattle.rules.specs.Steps.{renew, renew-all, format-steps, renewed-wear, add-steps, renewals, unclean, append-steps, taken, open-steps, copies, copy-steps, move-steps, has-free-slot, is-value, write-steps}
-use Rattle.rules.specs.Call.{page-size, page-mark, held-limit, OK, cut, page-count, pages, wrong-size, no-store, among, repeats, all-used, damaged, is-unclean, wrong-address, is-held, no-room, order-end, store-number, then, write-number, blank-read-number, read-number, accepted, format, or-value, read, not-held-value, blank-value, digits, lookup}
+use Rattle.rules.specs.Call.{page-size, page-edition, held-limit, OK, cut, page-count, pages, wrong-size, no-store, among, repeats, all-used, damaged, is-unclean, wrong-address, is-held, no-room, order-end, store-number, then, write-number, blank-read-number, read-number, accepted, format, or-value, read, not-held-value, blank-value, digits, lookup}
 use Rattle.rules.proofs.Truth.{by-cases}
 use Rattle.rules.proofs.Bits.{rises-refl}
 use Rattle.rules.proofs.Cut.{cut-length}
@@ -99,10 +99,10 @@ module _ (J : List Setting) (i : List ℕ) (h : Kept-well J i) where
   F = cut page-size (h .count) i
 
   differ : repeats (used-orders (base (states (pages i))) (states (pages i))) ≡ false
-  differ = rw (pages-are J i h) (orders-apart page-mark 253 (h .count) held-limit J F (h .good))
+  differ = rw (pages-are J i h) (orders-apart page-edition 253 (h .count) held-limit J F (h .good))
 
   spare : all-used (states (pages i)) ≡ false
-  spare = rw (pages-are J i h) (not-all-used page-mark 253 (h .count) held-limit J F (h .good))
+  spare = rw (pages-are J i h) (not-all-used page-edition 253 (h .count) held-limit J F (h .good))
 
   few : held (pages i) ≤ held-limit
   few = rw (held-here J i h) (h .good .few)
@@ -141,47 +141,47 @@ erases-copies p k [] = refl
 erases-copies p k (setting a v ∷ rs) =
     erases-none (word-steps p (slot-place k) (record-word a v)) (copy-steps p (suc k) rs) (erases-word p (slot-place k) (record-word a v)) (erases-copies p (suc k) rs)
 
-erases-renew : (mark k n : ℕ) (ss : List Step) → erases (renew mark k n ++ ss) ≡ suc (erases ss)
+erases-renew : (edition k n : ℕ) (ss : List Step) → erases (renew edition k n ++ ss) ≡ suc (erases ss)
 unfolding erases renew
-erases-renew mark k n ss = ap suc (erases-after (word-steps k wear-place (wear-word mark n)) ss (erases-word k wear-place (wear-word mark n)))
+erases-renew edition k n ss = ap suc (erases-after (word-steps k wear-place (wear-word edition n)) ss (erases-word k wear-place (wear-word edition n)))
 
 -- all pages but the one at t
 abbrev but-one : ℕ → ℕ → State → Bool
 but-one t k s = not (eqb k t)
 
-erases-past : (mark t k : ℕ) (ps : List Page) → t < k → erases (renewals mark (but-one t) k ps) ≡ length ps
+erases-past : (edition t k : ℕ) (ps : List Page) → t < k → erases (renewals edition (but-one t) k ps) ≡ length ps
 unfolding erases renewals add-steps
-erases-past mark t k [] l = refl
-erases-past mark t k (p ∷ ps) l =
-    rw (ne-eqb k t (λ e. omega arith)) (erases-renew mark k (renewed-wear (p .wear)) _ ∙ ap suc (erases-past mark t (suc k) ps (omega arith)))
+erases-past edition t k [] l = refl
+erases-past edition t k (p ∷ ps) l =
+    rw (ne-eqb k t (λ e. omega arith)) (erases-renew edition k (renewed-wear (p .wear)) _ ∙ ap suc (erases-past edition t (suc k) ps (omega arith)))
 
-erases-others : (mark t k : ℕ) (ps : List Page) → k ≤ t → t < k + length ps → erases (renewals mark (but-one t) k ps) + 1 ≡ length ps
+erases-others : (edition t k : ℕ) (ps : List Page) → k ≤ t → t < k + length ps → erases (renewals edition (but-one t) k ps) + 1 ≡ length ps
 unfolding erases renewals add-steps
-erases-others mark t k [] l h = absurd (omega arith)
-erases-others mark t k (p ∷ ps) l h =
+erases-others edition t k [] l h = absurd (omega arith)
+erases-others edition t k (p ∷ ps) l h =
     by-cases (eqb k t)
-    (λ e. let z = eqb-true k t e in let r = erases-past mark t (suc k) ps (omega arith) in rw e (omega arith))
+    (λ e. let z = eqb-true k t e in let r = erases-past edition t (suc k) ps (omega arith) in rw e (omega arith))
     (λ e.
     let z = eqb-false k t e in
     let ne : k ≡ t → ⊥ = z in
     let lt : suc k ≤ t = omega arith in
-    let r = erases-others mark t (suc k) ps lt (omega arith) in
-    let n = erases-renew mark k (renewed-wear (p .wear)) (renewals mark (but-one t) (suc k) ps) in
+    let r = erases-others edition t (suc k) ps lt (omega arith) in
+    let n = erases-renew edition k (renewed-wear (p .wear)) (renewals edition (but-one t) (suc k) ps) in
     rw e (omega arith))
 
 -- a move, of any pages one of which is taken
-move-erases : (mark a v : ℕ) (ps : List Page) → taken ps < length ps → erases (move-steps mark a v ps) + 1 ≡ length ps
+move-erases : (edition a v : ℕ) (ps : List Page) → taken ps < length ps → erases (move-steps edition a v ps) + 1 ≡ length ps
 unfolding move-steps
-move-erases mark a v ps l =
+move-erases edition a v ps l =
     let t = taken ps in
     let o = active-order (states ps) + 1 in
-    let rest = renewals mark (but-one t) 0 ps in
+    let rest = renewals edition (but-one t) 0 ps in
     let done = word-steps t done-place (done-word o) in
     let copied = copy-steps t 0 (copies a v ps) in
     let opened = word-steps t opening-place (opening-word 2 o) in
     let none-yet : erases (opened ++ copied ++ done) ≡ 0 =
     erases-none (opened ++ copied) done (erases-none opened copied (erases-word t opening-place (opening-word 2 o)) (erases-copies t 0 (copies a v ps))) (erases-word t done-place (done-word o)) in
-    ap (λ (n : ℕ). n + 1) (erases-after (opened ++ copied ++ done) rest none-yet) ∙ erases-others mark t 0 ps (omega arith) (omega arith)
+    ap (λ (n : ℕ). n + 1) (erases-after (opened ++ copied ++ done) rest none-yet) ∙ erases-others edition t 0 ps (omega arith) (omega arith)
 
 taken-within : (ps : List Page) → (count is-cleared (states ps) ≡ 0 → ⊥) → taken ps < length ps
 unfolding taken index
@@ -197,13 +197,13 @@ move-takes : (J : List Setting) (i : List ℕ) → Kept-well J i → (a v : ℕ)
 move-takes J i h a v ok m =
     let F = cut page-size (h .count) i in
     let w = accepted-here J i h a v ok (rw (value-here J i h a) at (m .changes)) in
-    let all = some-cleared page-mark 256 (w .good .base-order) (h .count) (w .good .used-by) F (ordered page-mark 253 (h .count) held-limit J F (w .good)) (w .good .keeps .count) (w .clean) in
+    let all = some-cleared page-edition 256 (w .good .base-order) (h .count) (w .good .used-by) F (ordered page-edition 253 (h .count) held-limit J F (w .good)) (w .good .keeps .count) (w .clean) in
     let sp = w .good .spare in
-    rw (pages-are J i h) (taken-within (told page-mark F) (λ z. omega arith))
+    rw (pages-are J i h) (taken-within (told page-edition F) (λ z. omega arith))
 
 pages-count : (i : List ℕ) → length (pages i) ≡ page-count i
 unfolding pages
-pages-count i = length-map (cut page-size (page-count i) i) (page page-mark) ∙ cut-length page-size (page-count i) i
+pages-count i = length-map (cut page-size (page-count i) i) (page page-edition) ∙ cut-length page-size (page-count i) i
 
 pub move-wears : a-move-wears-all-but-one
 unfolding write-steps
@@ -211,7 +211,7 @@ move-wears i u a v ok m =
     let p = in-use-kept u in
     let l = move-takes (p .0) i (p .1) a v ok m in
     rw (m .changes, m .full, lt-leb 2 (count is-cleared (states (pages i))) (m .last-cleared))
-    (move-erases page-mark a v (pages i) l ∙ pages-count i)
+    (move-erases page-edition a v (pages i) l ∙ pages-count i)
 
 append-erases : (a v : ℕ) (ps : List Page) → erases (append-steps a v ps) ≡ 0
 unfolding append-steps
@@ -236,15 +236,15 @@ others-wear-none i a v still =
 
 -- the fresh store, computed in one pass for each step of the format
 laid-out : List ℕ
-laid-out = laid-all page-size (format-steps page-mark 2) new-flash
+laid-out = laid-all page-size (format-steps page-edition 2) new-flash
 
-inside : within page-size (length new-flash) (format-steps page-mark 2) ≡ true
+inside : within page-size (length new-flash) (format-steps page-edition 2) ≡ true
 unfolding within format-steps renew-all renew word-steps wear-word opening-word number-word checked offset aim
 inside = refl
 
 fresh-is : fresh-store ≡ laid-out
 unfolding laid-out format wrong-size page-count
-fresh-is = run-laid page-size (format-steps page-mark 2) new-flash inside
+fresh-is = run-laid page-size (format-steps page-edition 2) new-flash inside
 
 -- it with two bytes in the second half of slot 0 of page 0, after the first half of the record
 with-second : (c d : ℕ) → List ℕ

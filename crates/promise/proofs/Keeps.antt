@@ -25,12 +25,12 @@ AllWhole k (pg ∷ F) = Whole k pg × AllWhole k F
 
 -- A store keeps a journal: n whole pages, with a base order, the orders of its used pages by index, and their records, oldest
 -- first. Everything that a call answers by is one of these.
-pub record Keeps (mark k n b : ℕ) (os : List ℕ) (J : List Setting) (F : Pages) : Type 0 where
+pub record Keeps (edition k n b : ℕ) (os : List ℕ) (J : List Setting) (F : Pages) : Type 0 where
   pub whole : AllWhole k F
   pub count : length F ≡ n
-  pub is-base : base (states (told mark F)) ≡ b
-  pub has-orders : orders (used-pages b (told mark F)) ≡ os
-  pub has-journal : all-records (oldest-first (used-pages b (told mark F))) ≡ J
+  pub is-base : base (states (told edition F)) ≡ b
+  pub has-orders : orders (used-pages b (told edition F)) ≡ os
+  pub has-journal : all-records (oldest-first (used-pages b (told edition F))) ≡ J
 
 pub whole-amid : (k : ℕ) (f : Pages) (pg : List Word) (r : Pages) → AllWhole k (f ++ pg ∷ r) → AllWhole k f × Whole k pg × AllWhole k r
 unfolding AllWhole
@@ -51,15 +51,15 @@ pub same-count : (f : Pages) (pg qg : List Word) (r : Pages) → length (f ++ qg
 same-count f pg qg r = length-append f (qg ∷ r) ∙ sym (length-append f (pg ∷ r))
 
 -- a page that is not used fades, and the store keeps its journal
-module _ (mark k n b : ℕ) (os : List ℕ) (J : List Setting) where
-  pub keeps-fade : (f : Pages) (pg qg : List Word) (r : Pages) → used b (state mark pg) ≡ false → Fades (state mark pg) (state mark qg) → Whole k qg → Keeps mark k n b os J (f ++ pg ∷ r) → Keeps mark k n b os J (f ++ qg ∷ r)
+module _ (edition k n b : ℕ) (os : List ℕ) (J : List Setting) where
+  pub keeps-fade : (f : Pages) (pg qg : List Word) (r : Pages) → used b (state edition pg) ≡ false → Fades (state edition pg) (state edition qg) → Whole k qg → Keeps edition k n b os J (f ++ pg ∷ r) → Keeps edition k n b os J (f ++ qg ∷ r)
   unfolding page
   keeps-fade f pg qg r u d w h =
       let t = whole-amid k f pg r (h .whole) in
-      let fp = told mark f in
-      let p = page mark pg in
-      let q = page mark qg in
-      let rp = told mark r in
+      let fp = told edition f in
+      let p = page edition pg in
+      let q = page edition qg in
+      let rp = told edition r in
       let eb : base (states (fp ++ p ∷ rp)) ≡ b = rw told-amid at (h .is-base) in
       let eq : base (states (fp ++ q ∷ rp)) ≡ b = fade-base fp p q rp (rw eb u) d ∙ eb in
       let ep : used-pages b (fp ++ q ∷ rp) ≡ used-pages b (fp ++ p ∷ rp) = fade-pages fp p q rp b u d in

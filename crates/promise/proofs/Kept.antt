@@ -15,7 +15,7 @@ use Rattle.rules.specs.Word.{Word}
 use Rattle.rules.specs.Page.{Page}
 use Rattle.rules.specs.Store.{states, base, Setting, setting, last-of, value, count}
 use Rattle.rules.specs.Steps.{unclean, format-steps, recovery-steps, write-steps, is-value}
-use Rattle.rules.specs.Call.{page-size, page-mark, held-limit, cut, page-count, pages, wrong-size, store-number, is-unclean, write-number, wrong-address, is-held, or-value, then, stepped, write, format, read, Reading, accepted, no-room, order-end, OK, NO-STORE, DAMAGED, UNCLEAN, ADDRESS, NO-ROOM, ORDER-END}
+use Rattle.rules.specs.Call.{page-size, page-edition, held-limit, cut, page-count, pages, wrong-size, store-number, is-unclean, write-number, wrong-address, is-held, or-value, then, stepped, write, format, read, Reading, accepted, no-room, order-end, OK, NO-STORE, DAMAGED, UNCLEAN, ADDRESS, NO-ROOM, ORDER-END}
 use Rattle.rules.proofs.Truth.{by-cases, not-both, or-false-left, or-false-right}
 use Rattle.rules.proofs.Cut.{cut-length}
 use Rattle.rules.proofs.Settings.{last-of-here, last-of-other}
@@ -34,8 +34,8 @@ use Rattle.promise.proofs.Clean.{recovered-clean}
 -- ---- a recovery
 
 module _ (J : List Setting) (i : List ℕ) (h : Kept-well J i) where
-  recovering : Through 256 (Good page-mark 256 (h .count) held-limit J) (recovery-of i) (cut page-size (h .count) i)
-  recovering = rw (pages-are J i h) (recovery-through page-mark 255 (h .count) held-limit J (cut page-size (h .count) i) (h .good))
+  recovering : Through 256 (Good page-edition 256 (h .count) held-limit J) (recovery-of i) (cut page-size (h .count) i)
+  recovering = rw (pages-are J i h) (recovery-through page-edition 255 (h .count) held-limit J (cut page-size (h .count) i) (h .good))
 
   pub recovery-kept : {n : ℕ} {j : List ℕ} → Left page-size n (recovery-of i) i j → Kept-well J j
   recovery-kept l =
@@ -82,11 +82,11 @@ module _ (J : List Setting) (i : List ℕ) (h : Kept-well J i) (a v : ℕ) (ok :
   unfolding write-steps
   no-steps e = rw (value-here J i h a, e)
 
-  turning : is-value (last-of a J) v ≡ false → Turns 256 (Has page-mark 256 n held-limit (old-values J)) (Has page-mark 256 n held-limit (new-values J a v)) (write-of a v i) (cut page-size n i)
+  turning : is-value (last-of a J) v ≡ false → Turns 256 (Has page-edition 256 n held-limit (old-values J)) (Has page-edition 256 n held-limit (new-values J a v)) (write-of a v i) (cut page-size n i)
   turning e =
-      rw (pages-are J i h) (write-turns page-mark 252 n held-limit a v J (h .least) (omega arith) (cut page-size n i) (accepted-here J i h a v ok e) e)
+      rw (pages-are J i h) (write-turns page-edition 252 n held-limit a v J (h .least) (omega arith) (cut page-size n i) (accepted-here J i h a v ok e) e)
 
-  says : (t : ℕ → Option ℕ) (j : List ℕ) → length j ≡ n * 1024 → Has page-mark 256 n held-limit t (cut page-size n j) → Says t j
+  says : (t : ℕ → Option ℕ) (j : List ℕ) → length j ≡ n * 1024 → Has page-edition 256 n held-limit t (cut page-size n j) → Says t j
   says t j l p =
       record { journal = p .0; kept = record { count = n; sized = l; least = h .least; most = h .most; good = p .1 }; values = p .2 }
 
@@ -156,7 +156,7 @@ module _ (J : List Setting) (i : List ℕ) (h : Kept-well J i) (a v : ℕ) (ok :
   ended e =
       let t = turning e in
       let y = run-pages 256 n (write-of a v i) i (turns-either 256 n t) (h .sized) in
-      says (new-values J a v) (run page-size (write-of a v i) i) (y .1) (subst (Has page-mark 256 n held-limit (new-values J a v)) (sym (y .0)) (turns-end 256 t))
+      says (new-values J a v) (run page-size (write-of a v i) i) (y .1) (subst (Has page-edition 256 n held-limit (new-values J a v)) (sym (y .0)) (turns-end 256 t))
 
   pub finished-found : (c : ℕ) → write a v c i .finished ≡ true → Found a v c i
   unfolding run
@@ -179,15 +179,15 @@ unfolding cut
 cut-cons zero i l = absurd (omega arith)
 cut-cons (suc n) i l = (_, _, refl, ap suc (sym (cut-length page-size n (drop page-size i))))
 
-format-sized : (n : ℕ) (i : List ℕ) (pg : List Word) (r : Pages) → cut page-size n i ≡ pg ∷ r → n ≡ suc (length r) → length i ≡ n * 1024 → 2 ≤ n → n ≤ 32 → Kept-well [] (run page-size (format-steps page-mark n) i)
+format-sized : (n : ℕ) (i : List ℕ) (pg : List Word) (r : Pages) → cut page-size n i ≡ pg ∷ r → n ≡ suc (length r) → length i ≡ n * 1024 → 2 ≤ n → n ≤ 32 → Kept-well [] (run page-size (format-steps page-edition n) i)
 format-sized n i pg r p en sized least most =
-    let steps = format-steps page-mark (suc (length r)) in
-    let through = subst (Through 256 _ steps) (sym p) (format-through page-mark 253 pg r) in
+    let steps = format-steps page-edition (suc (length r)) in
+    let through = subst (Through 256 _ steps) (sym p) (format-through page-edition 253 pg r) in
     let y = run-pages 256 n steps i through sized in
-    let e : cut page-size n (run page-size steps i) ≡ _ = y .0 ∙ ap (store-run 256 steps) p ∙ format-run page-mark 253 pg r in
-    let good = format-good page-mark 253 (length r) held-limit (omega arith) in
-    subst (λ (x : ℕ). Kept-well [] (run page-size (format-steps page-mark x) i)) (sym en)
-    (record { count = n; sized = y .1; least = least; most = most; good = rw e (subst (λ (x : ℕ). Good page-mark 256 x held-limit [] (formatted-store page-mark 253 (length r))) (sym en) good) })
+    let e : cut page-size n (run page-size steps i) ≡ _ = y .0 ∙ ap (store-run 256 steps) p ∙ format-run page-edition 253 pg r in
+    let good = format-good page-edition 253 (length r) held-limit (omega arith) in
+    subst (λ (x : ℕ). Kept-well [] (run page-size (format-steps page-edition x) i)) (sym en)
+    (record { count = n; sized = y .1; least = least; most = most; good = rw e (subst (λ (x : ℕ). Good page-edition 256 x held-limit [] (formatted-store page-edition 253 (length r))) (sym en) good) })
 
 format-kept : (i : List ℕ) → wrong-size i ≡ false → Kept-well [] (format i .image)
 unfolding format wrong-size page-count
@@ -229,10 +229,10 @@ clean-after J i h =
     let r = run page-size (recovery-of i) i in
     let F = cut page-size (h .count) i in
     let y = run-pages 256 (h .count) (recovery-of i) i (recovering J i h) (h .sized) in
-    let e : pages r ≡ told page-mark (store-run 256 (recovery-steps page-mark (told page-mark F)) F) =
+    let e : pages r ≡ told page-edition (store-run 256 (recovery-steps page-edition (told page-edition F)) F) =
     pages-are J r (recovery-kept J i h (whole-list (recovery-of i) i))
-    ∙ ap (told page-mark) (y .0 ∙ ap (λ (ps : List Page). store-run 256 (recovery-steps page-mark ps) F) (pages-are J i h)) in
-    let z = recovered-clean page-mark 255 (h .count) held-limit J F (h .good) in
+    ∙ ap (told page-edition) (y .0 ∙ ap (λ (ps : List Page). store-run 256 (recovery-steps page-edition ps) F) (pages-are J i h)) in
+    let z = recovered-clean page-edition 255 (h .count) held-limit J F (h .good) in
     rw e (ap not (eq-eqb _ 0 z))
 
 pub mended : recovery-mends

@@ -29,12 +29,12 @@ use Rattle.rules.proofs.Active.{taken-page}
 use Rattle.rules.proofs.Building.{room, room-is, copy-run, copy-through}
 use Rattle.promise.proofs.Open.{begun, closed-keeps, partial-opening, taken-whole, base-below, base-apart, under-apart}
 
-module _ (mark m n b : ℕ) (os : List ℕ) (J : List Setting) (f : Pages) (w : Word) (r : Pages) (o : ℕ) (worn : is-wear mark w ≡ true) (under : Under o os) (some-used : 0 < length os) (h : Keeps mark (suc (suc (suc m))) n b os J (f ++ taken-page m w ∷ r)) where
+module _ (edition m n b : ℕ) (os : List ℕ) (J : List Setting) (f : Pages) (w : Word) (r : Pages) (o : ℕ) (worn : is-wear edition w ≡ true) (under : Under o os) (some-used : 0 < length os) (h : Keeps edition (suc (suc (suc m))) n b os J (f ++ taken-page m w ∷ r)) where
   abbrev k : ℕ
   k = suc (suc (suc m))
 
   abbrev Old : Pages → Type 0
-  Old = Keeps mark k n b os J
+  Old = Keeps edition k n b os J
 
   -- the page while it receives, with d for its done word
   abbrev receives : Word → List Word → List Word
@@ -43,18 +43,18 @@ module _ (mark m n b : ℕ) (os : List ℕ) (J : List Setting) (f : Pages) (w : 
   receiving-keeps : (d : Word) (ws : List Word) → sound d ≡ false → Whole k (receives d ws) → Old (f ++ receives d ws ∷ r)
   unfolding opening-part done-part
   receiving-keeps d ws s q =
-      closed-keeps mark m n b os J f w r o worn under some-used h (receives d ws) q (undone-not-open mark (receives d ws) (opening-not-plain o) s)
+      closed-keeps edition m n b os J f w r o worn under some-used h (receives d ws) q (undone-not-open edition (receives d ws) (opening-not-plain o) s)
 
   started : Whole k (receives blank-word (replicate m blank-word))
   started =
-      whole-word k (w ∷ []) blank-word (opening-word 2 o) (replicate (suc m) blank-word) (taken-whole mark m n b os J f w r o worn under some-used h)
+      whole-word k (w ∷ []) blank-word (opening-word 2 o) (replicate (suc m) blank-word) (taken-whole edition m n b os J f w r o worn under some-used h)
       (sound-light (opening-word 2 o) (opening-sound 2 o))
 
   opening-through : Through k Old (word-steps (length f) opening-place (opening-word 2 o)) (f ++ taken-page m w ∷ r)
   opening-through =
       turns-through k
       (word-turns k f r (w ∷ []) (replicate (suc m) blank-word) Old Old (opening-word 2 o) (opening-sound 2 o)
-      (partial-opening mark m n b os J f w r o worn under some-used h) (receiving-keeps blank-word (replicate m blank-word) blank-not-sound started))
+      (partial-opening edition m n b os J f w r o worn under some-used h) (receiving-keeps blank-word (replicate m blank-word) blank-not-sound started))
 
   opening-run : store-run k (word-steps (length f) opening-place (opening-word 2 o)) (f ++ taken-page m w ∷ r) ≡ f ++ receives blank-word (replicate m blank-word) ∷ r
   opening-run = word-run k f r (w ∷ []) (replicate (suc m) blank-word) (opening-word 2 o)
@@ -70,31 +70,31 @@ module _ (mark m n b : ℕ) (os : List ℕ) (J : List Setting) (f : Pages) (w : 
     abbrev filled : List Word
     filled = written cs ++ replicate j blank-word
 
-    others-unused : NoneUsed o (told mark f) × NoneUsed o (told mark r)
+    others-unused : NoneUsed o (told edition f) × NoneUsed o (told edition r)
     others-unused =
-        let l : b ≤ o = (let x = base-below mark m n b os J f w r o worn under some-used h in omega arith) in
-        let u = under-apart mark m n b os J f w r o worn under some-used h in
-        (none-used b o (told mark f) l (u .0), none-used b o (told mark r) l (u .1))
+        let l : b ≤ o = (let x = base-below edition m n b os J f w r o worn under some-used h in omega arith) in
+        let u = under-apart edition m n b os J f w r o worn under some-used h in
+        (none-used b o (told edition f) l (u .0), none-used b o (told edition r) l (u .1))
 
     filled-records : records filled ≡ cs
     filled-records = records-append (written cs) (replicate j blank-word) ∙ ap (λ (rs : List Setting). records (written cs) ++ rs) (blank-records (replicate j blank-word) (replicate-all-blank j)) ∙ append-nil (records (written cs)) ∙ written-records cs lawful
 
-    pub done-keeps : Keeps mark k n o (o ∷ []) cs (f ++ receives (done-word o) filled ∷ r)
+    pub done-keeps : Keeps edition k n o (o ∷ []) cs (f ++ receives (done-word o) filled ∷ r)
     unfolding page orders order order₂ used slots oldest-first insert all-records
     done-keeps =
         let qg = receives (done-word o) filled in
-        let e : state mark qg ≡ open₂ o = opened-received mark w worn o filled in
+        let e : state edition qg ≡ open₂ o = opened-received edition w worn o filled in
         let t = whole-amid k f (taken-page m w) r (h .whole) in
-        let fp = told mark f in
-        let rp = told mark r in
-        let z : order₂ (state mark qg) ≡ o = rw e in
-        let g = base-amid fp (page mark qg) rp in
-        let a = base-apart mark m n b os J f w r o worn under some-used h in
-        let l = base-below mark m n b os J f w r o worn under some-used h in
-        let d = ap (λ (ps : List Page). base (states ps)) (told-amid mark f qg r) in
-        let u : used o (state mark qg) ≡ true = rw e (le-leb o o (omega arith)) in
-        let only : used-pages o (told mark (f ++ qg ∷ r)) ≡ page mark qg ∷ [] =
-        ap (used-pages o) (told-amid mark f qg r) ∙ used-amid o fp (page mark qg) rp u
+        let fp = told edition f in
+        let rp = told edition r in
+        let z : order₂ (state edition qg) ≡ o = rw e in
+        let g = base-amid fp (page edition qg) rp in
+        let a = base-apart edition m n b os J f w r o worn under some-used h in
+        let l = base-below edition m n b os J f w r o worn under some-used h in
+        let d = ap (λ (ps : List Page). base (states ps)) (told-amid edition f qg r) in
+        let u : used o (state edition qg) ≡ true = rw e (le-leb o o (omega arith)) in
+        let only : used-pages o (told edition (f ++ qg ∷ r)) ≡ page edition qg ∷ [] =
+        ap (used-pages o) (told-amid edition f qg r) ∙ used-amid o fp (page edition qg) rp u
         ∙ rw (none-used-pages o fp (others-unused .0), none-used-pages o rp (others-unused .1)) in
         record {
           whole = amid-whole k f qg r (t .0) (whole-word k (w ∷ opening-word 2 o ∷ []) blank-word (done-word o) filled full (sound-light (done-word o) (done-sound o))) (t .2);
@@ -104,9 +104,9 @@ module _ (mark m n b : ℕ) (os : List ℕ) (J : List Setting) (f : Pages) (w : 
           has-journal = ap (λ (ps : List Page). all-records (oldest-first ps)) only ∙ append-nil (records filled) ∙ filled-records;
         }
 
-    done-turns : Turns k Old (Keeps mark k n o (o ∷ []) cs) (word-steps (length f) done-place (done-word o)) (f ++ receives blank-word filled ∷ r)
+    done-turns : Turns k Old (Keeps edition k n o (o ∷ []) cs) (word-steps (length f) done-place (done-word o)) (f ++ receives blank-word filled ∷ r)
     done-turns =
-        word-turns k f r (w ∷ opening-word 2 o ∷ []) filled Old (Keeps mark k n o (o ∷ []) cs) (done-word o) (done-sound o)
+        word-turns k f r (w ∷ opening-word 2 o ∷ []) filled Old (Keeps edition k n o (o ∷ []) cs) (done-word o) (done-sound o)
         (λ d p. receiving-keeps d filled (p .not-sound) (whole-word k (w ∷ opening-word 2 o ∷ []) blank-word d filled full (p .light))) done-keeps
 
     pub done-run : store-run k (word-steps (length f) done-place (done-word o)) (f ++ receives blank-word filled ∷ r) ≡ f ++ receives (done-word o) filled ∷ r
@@ -115,29 +115,29 @@ module _ (mark m n b : ℕ) (os : List ℕ) (J : List Setting) (f : Pages) (w : 
 -- ---- the other pages are renewed
 
 -- what is not picked may change without a step changing
-pub renewals-skip : (mark : ℕ) (picks : ℕ → State → Bool) (i : ℕ) (fs : List Page) (p q : Page) (rs : List Page) → ((s : State) → picks (i + length fs) s ≡ false) → renewals mark picks i (fs ++ p ∷ rs) ≡ renewals mark picks i (fs ++ q ∷ rs)
+pub renewals-skip : (edition : ℕ) (picks : ℕ → State → Bool) (i : ℕ) (fs : List Page) (p q : Page) (rs : List Page) → ((s : State) → picks (i + length fs) s ≡ false) → renewals edition picks i (fs ++ p ∷ rs) ≡ renewals edition picks i (fs ++ q ∷ rs)
 unfolding renewals add-steps
-renewals-skip mark picks i [] p q rs h = let e : i + 0 ≡ i = omega arith in let g : (s : State) → picks i s ≡ false = λ s. subst (λ (x : ℕ). picks x s ≡ false) e (h s) in rw (g (p .state), g (q .state))
-renewals-skip mark picks i (x ∷ fs) p q rs h =
+renewals-skip edition picks i [] p q rs h = let e : i + 0 ≡ i = omega arith in let g : (s : State) → picks i s ≡ false = λ s. subst (λ (x : ℕ). picks x s ≡ false) e (h s) in rw (g (p .state), g (q .state))
+renewals-skip edition picks i (x ∷ fs) p q rs h =
     let e : i + suc (length fs) ≡ suc i + length fs = omega arith in
-    ap (add-steps (picks i (x .state)) (renew mark i (renewed-wear (x .wear)))) (renewals-skip mark picks (suc i) fs p q rs (λ s. subst (λ (x : ℕ). picks x s ≡ false) e (h s)))
+    ap (add-steps (picks i (x .state)) (renew edition i (renewed-wear (x .wear)))) (renewals-skip edition picks (suc i) fs p q rs (λ s. subst (λ (x : ℕ). picks x s ≡ false) e (h s)))
 
 -- pages that are not used may be picked
-idle-unused : (mark o : ℕ) (picks : ℕ → State → Bool) (i : ℕ) (F : Pages) → NoneUsed o (told mark F) → Idle mark o picks i F
+idle-unused : (edition o : ℕ) (picks : ℕ → State → Bool) (i : ℕ) (F : Pages) → NoneUsed o (told edition F) → Idle edition o picks i F
 unfolding NoneUsed Idle page
-idle-unused mark o picks i [] h = tt
-idle-unused mark o picks i (pg ∷ F) h = (λ t. h .0, idle-unused mark o picks (suc i) F (h .1))
+idle-unused edition o picks i [] h = tt
+idle-unused edition o picks i (pg ∷ F) h = (λ t. h .0, idle-unused edition o picks (suc i) F (h .1))
 
-idle-amid : (mark o : ℕ) (picks : ℕ → State → Bool) (i : ℕ) (f : Pages) (pg : List Word) (r : Pages) → NoneUsed o (told mark f) → NoneUsed o (told mark r) → ((s : State) → picks (i + length f) s ≡ false) → Idle mark o picks i (f ++ pg ∷ r)
+idle-amid : (edition o : ℕ) (picks : ℕ → State → Bool) (i : ℕ) (f : Pages) (pg : List Word) (r : Pages) → NoneUsed o (told edition f) → NoneUsed o (told edition r) → ((s : State) → picks (i + length f) s ≡ false) → Idle edition o picks i (f ++ pg ∷ r)
 unfolding NoneUsed Idle page
-idle-amid mark o picks i [] pg r a c h = let e : i + 0 ≡ i = omega arith in (λ t. not-both t (subst (λ (x : ℕ). picks x (state mark pg) ≡ false) e (h (state mark pg))), idle-unused mark o picks (suc i) r c)
-idle-amid mark o picks i (x ∷ f) pg r a c h =
+idle-amid edition o picks i [] pg r a c h = let e : i + 0 ≡ i = omega arith in (λ t. not-both t (subst (λ (x : ℕ). picks x (state edition pg) ≡ false) e (h (state edition pg))), idle-unused edition o picks (suc i) r c)
+idle-amid edition o picks i (x ∷ f) pg r a c h =
     let e : i + suc (length f) ≡ suc i + length f = omega arith in
-    (λ t. a .0, idle-amid mark o picks (suc i) f pg r (a .1) c (λ s. subst (λ (x : ℕ). picks x s ≡ false) e (h s)))
+    (λ t. a .0, idle-amid edition o picks (suc i) f pg r (a .1) c (λ s. subst (λ (x : ℕ). picks x s ≡ false) e (h s)))
 
 -- ---- the whole move
 
-module _ (mark m n b : ℕ) (os : List ℕ) (J : List Setting) (f : Pages) (w : Word) (r : Pages) (o : ℕ) (worn : is-wear mark w ≡ true) (under : Under o os) (some-used : 0 < length os) (h : Keeps mark (suc (suc (suc m))) n b os J (f ++ taken-page m w ∷ r)) where
+module _ (edition m n b : ℕ) (os : List ℕ) (J : List Setting) (f : Pages) (w : Word) (r : Pages) (o : ℕ) (worn : is-wear edition w ≡ true) (under : Under o os) (some-used : 0 < length os) (h : Keeps edition (suc (suc (suc m))) n b os J (f ++ taken-page m w ∷ r)) where
   abbrev other : ℕ → State → Bool
   other i s = not (eqb i (length f))
 
@@ -145,8 +145,8 @@ module _ (mark m n b : ℕ) (os : List ℕ) (J : List Setting) (f : Pages) (w : 
   other-not s = let e : 0 + length f ≡ length f = omega arith in rw e (ap not (eq-eqb (length f) (length f) refl))
 
   pub move-turns : (cs : List Setting) → Lawful cs → length cs ≤ m
-      → Turns (suc (suc (suc m))) (Keeps mark (suc (suc (suc m))) n b os J) (Keeps mark (suc (suc (suc m))) n o (o ∷ []) cs)
-      (word-steps (length f) opening-place (opening-word 2 o) ++ copy-steps (length f) 0 cs ++ word-steps (length f) done-place (done-word o) ++ renewals mark other 0 (told mark (f ++ taken-page m w ∷ r)))
+      → Turns (suc (suc (suc m))) (Keeps edition (suc (suc (suc m))) n b os J) (Keeps edition (suc (suc (suc m))) n o (o ∷ []) cs)
+      (word-steps (length f) opening-place (opening-word 2 o) ++ copy-steps (length f) 0 cs ++ word-steps (length f) done-place (done-word o) ++ renewals edition other 0 (told edition (f ++ taken-page m w ∷ r)))
       (f ++ taken-page m w ∷ r)
   unfolding page
   move-turns cs lawful fits =
@@ -157,21 +157,21 @@ module _ (mark m n b : ℕ) (os : List ℕ) (J : List Setting) (f : Pages) (w : 
       let doing = word-steps (length f) done-place (done-word o) in
       let F = f ++ taken-page m w ∷ r in
       let spare = room-is cs m fits in
-      let begins : Whole k (w ∷ opening-word 2 o ∷ blank-word ∷ room cs (replicate j blank-word)) = rw spare at (started mark m n b os J f w r o worn under some-used h) in
-      let copies = copying mark m n b os J f w r o worn under some-used h (replicate j blank-word) cs begins in
+      let begins : Whole k (w ∷ opening-word 2 o ∷ blank-word ∷ room cs (replicate j blank-word)) = rw spare at (started edition m n b os J f w r o worn under some-used h) in
+      let copies = copying edition m n b os J f w r o worn under some-used h (replicate j blank-word) cs begins in
       let copied = copy-run k f r w (opening-word 2 o) (replicate j blank-word) cs [] in
-      let opened : store-run k opening F ≡ f ++ (w ∷ opening-word 2 o ∷ blank-word ∷ room cs (replicate j blank-word)) ∷ r = opening-run mark m n b os J f w r o worn under some-used h ∙ ap (λ (ws : List Word). f ++ (w ∷ opening-word 2 o ∷ blank-word ∷ ws) ∷ r) spare in
-      let first = through-append k copy (opening-through mark m n b os J f w r o worn under some-used h) (subst (Through k (Keeps mark k n b os J) copy) (sym opened) copies) in
-      let full : Whole k (w ∷ opening-word 2 o ∷ blank-word ∷ (written cs ++ replicate j blank-word)) = whole-amid k f (w ∷ opening-word 2 o ∷ blank-word ∷ (written cs ++ replicate j blank-word)) r (subst (Keeps mark k n b os J) copied (through-end k copies) .whole) .1 in
-      let New = Keeps mark k n o (o ∷ []) cs in
+      let opened : store-run k opening F ≡ f ++ (w ∷ opening-word 2 o ∷ blank-word ∷ room cs (replicate j blank-word)) ∷ r = opening-run edition m n b os J f w r o worn under some-used h ∙ ap (λ (ws : List Word). f ++ (w ∷ opening-word 2 o ∷ blank-word ∷ ws) ∷ r) spare in
+      let first = through-append k copy (opening-through edition m n b os J f w r o worn under some-used h) (subst (Through k (Keeps edition k n b os J) copy) (sym opened) copies) in
+      let full : Whole k (w ∷ opening-word 2 o ∷ blank-word ∷ (written cs ++ replicate j blank-word)) = whole-amid k f (w ∷ opening-word 2 o ∷ blank-word ∷ (written cs ++ replicate j blank-word)) r (subst (Keeps edition k n b os J) copied (through-end k copies) .whole) .1 in
+      let New = Keeps edition k n o (o ∷ []) cs in
       let G = f ++ (w ∷ opening-word 2 o ∷ done-word o ∷ (written cs ++ replicate j blank-word)) ∷ r in
       let ran : store-run k (opening ++ copy) F ≡ f ++ (w ∷ opening-word 2 o ∷ blank-word ∷ (written cs ++ replicate j blank-word)) ∷ r = store-run-append k opening copy F ∙ ap (store-run k copy) opened ∙ copied in
-      let second = turns-after k first (subst (Turns k (Keeps mark k n b os J) New doing) (sym ran) (done-turns mark m n b os J f w r o worn under some-used h cs lawful j full)) in
-      let done : store-run k (opening ++ copy ++ doing) F ≡ G = store-run-append k (opening ++ copy) doing F ∙ ap (store-run k doing) ran ∙ done-run mark m n b os J f w r o worn under some-used h cs lawful j full in
-      let unused = others-unused mark m n b os J f w r o worn under some-used h cs lawful j full in
-      let renewing = renewals-through mark (suc (suc m)) n o (o ∷ []) cs other [] G (idle-amid mark o other 0 f (w ∷ opening-word 2 o ∷ done-word o ∷ (written cs ++ replicate j blank-word)) r (unused .0) (unused .1) other-not) (done-keeps mark m n b os J f w r o worn under some-used h cs lawful j full) in
-      let alike : renewals mark other 0 (told mark G) ≡ renewals mark other 0 (told mark F) =
-      ap (renewals mark other 0) (told-amid mark f (w ∷ opening-word 2 o ∷ done-word o ∷ (written cs ++ replicate j blank-word)) r)
-      ∙ renewals-skip mark other 0 (told mark f) (page mark (w ∷ opening-word 2 o ∷ done-word o ∷ (written cs ++ replicate j blank-word))) (page mark (taken-page m w)) (told mark r) (rw length-map other-not)
-      ∙ ap (renewals mark other 0) (sym (told-amid mark f (taken-page m w) r)) in
-      turns-before k (renewals mark other 0 (told mark F)) second (subst (Through k New (renewals mark other 0 (told mark F))) (sym done) (subst (λ (ss : List Step). Through k New ss G) alike renewing))
+      let second = turns-after k first (subst (Turns k (Keeps edition k n b os J) New doing) (sym ran) (done-turns edition m n b os J f w r o worn under some-used h cs lawful j full)) in
+      let done : store-run k (opening ++ copy ++ doing) F ≡ G = store-run-append k (opening ++ copy) doing F ∙ ap (store-run k doing) ran ∙ done-run edition m n b os J f w r o worn under some-used h cs lawful j full in
+      let unused = others-unused edition m n b os J f w r o worn under some-used h cs lawful j full in
+      let renewing = renewals-through edition (suc (suc m)) n o (o ∷ []) cs other [] G (idle-amid edition o other 0 f (w ∷ opening-word 2 o ∷ done-word o ∷ (written cs ++ replicate j blank-word)) r (unused .0) (unused .1) other-not) (done-keeps edition m n b os J f w r o worn under some-used h cs lawful j full) in
+      let alike : renewals edition other 0 (told edition G) ≡ renewals edition other 0 (told edition F) =
+      ap (renewals edition other 0) (told-amid edition f (w ∷ opening-word 2 o ∷ done-word o ∷ (written cs ++ replicate j blank-word)) r)
+      ∙ renewals-skip edition other 0 (told edition f) (page edition (w ∷ opening-word 2 o ∷ done-word o ∷ (written cs ++ replicate j blank-word))) (page edition (taken-page m w)) (told edition r) (rw length-map other-not)
+      ∙ ap (renewals edition other 0) (sym (told-amid edition f (taken-page m w) r)) in
+      turns-before k (renewals edition other 0 (told edition F)) second (subst (Through k New (renewals edition other 0 (told edition F))) (sym done) (subst (λ (ss : List Step). Through k New ss G) alike renewing))

@@ -24,48 +24,48 @@ erase-fails : {p : ℕ} {pg qg : List Word} → PageFails (erase p) pg qg → Wo
 erase-fails (erasing r) = r
 
 -- the pages that are picked are not used
-unfoldable pub Idle : (mark b : ℕ) → (ℕ → State → Bool) → ℕ → Pages → Type 0
-Idle mark b picks i [] = Unit {0}
-Idle mark b picks i (pg ∷ F) = (picks i (state mark pg) ≡ true → used b (state mark pg) ≡ false) × Idle mark b picks (suc i) F
+unfoldable pub Idle : (edition b : ℕ) → (ℕ → State → Bool) → ℕ → Pages → Type 0
+Idle edition b picks i [] = Unit {0}
+Idle edition b picks i (pg ∷ F) = (picks i (state edition pg) ≡ true → used b (state edition pg) ≡ false) × Idle edition b picks (suc i) F
 
-module _ (mark k′ n b : ℕ) (os : List ℕ) (J : List Setting) where
+module _ (edition k′ n b : ℕ) (os : List ℕ) (J : List Setting) where
   abbrev pub Keeping : Pages → Type 0
-  Keeping = Keeps mark (suc k′) n b os J
+  Keeping = Keeps edition (suc k′) n b os J
 
-  pub renew-through : (f : Pages) (pg : List Word) (r : Pages) (wear : ℕ) → used b (state mark pg) ≡ false → Keeping (f ++ pg ∷ r) → Through (suc k′) Keeping (renew mark (length f) wear) (f ++ pg ∷ r)
+  pub renew-through : (f : Pages) (pg : List Word) (r : Pages) (wear : ℕ) → used b (state edition pg) ≡ false → Keeping (f ++ pg ∷ r) → Through (suc k′) Keeping (renew edition (length f) wear) (f ++ pg ∷ r)
   unfolding renew target AllLight Fits
   renew-through f pg r wear u h =
       let w = whole-amid (suc k′) f pg r (h .whole) .1 in
       let started : (v : Word) → Light v → Keeping (f ++ (v ∷ replicate k′ blank-word) ∷ r) =
-      λ v l. keeps-fade mark (suc k′) n b os J f pg (v ∷ replicate k′ blank-word) r u (inr (fresh-not-open mark v k′))
+      λ v l. keeps-fade edition (suc k′) n b os J f pg (v ∷ replicate k′ blank-word) r u (inr (fresh-not-open edition v k′))
       (ap suc (length-replicate k′ blank-word), (l, replicate-light k′)) h in
-      let rest = word-through (suc k′) f r [] (replicate k′ blank-word) Keeping (wear-word mark wear) (wear-sound mark wear) started in
+      let rest = word-through (suc k′) f r [] (replicate k′ blank-word) Keeping (wear-word edition wear) (wear-sound edition wear) started in
       step (here-fits (suc k′) f pg r) h
       (λ G x.
       let y = fails-amid (suc k′) f pg r (erase (length f)) G refl x in
       let rise = erase-fails (y .1) in
       subst Keeping (sym (y .2))
-      (keeps-fade mark (suc k′) n b os J f pg (y .0) r u (rise-fades mark rise (w .1)) (sym (rise-length rise) ∙ w .0, rise-light rise (w .1)) h))
-      (subst (Through (suc k′) Keeping _) (sym (erased mark k′ f pg r wear)) rest)
+      (keeps-fade edition (suc k′) n b os J f pg (y .0) r u (rise-fades edition rise (w .1)) (sym (rise-length rise) ∙ w .0, rise-light rise (w .1)) h))
+      (subst (Through (suc k′) Keeping _) (sym (erased edition k′ f pg r wear)) rest)
 
   module _ (picks : ℕ → State → Bool) where
     onward-through : (f : Pages) (qg : List Word) (F : Pages)
-        → Through (suc k′) Keeping (rest-steps mark k′ picks (length (f ++ qg ∷ [])) F) ((f ++ qg ∷ []) ++ F)
-        → Through (suc k′) Keeping (rest-steps mark k′ picks (suc (length f)) F) (f ++ qg ∷ F)
+        → Through (suc k′) Keeping (rest-steps edition k′ picks (length (f ++ qg ∷ [])) F) ((f ++ qg ∷ []) ++ F)
+        → Through (suc k′) Keeping (rest-steps edition k′ picks (suc (length f)) F) (f ++ qg ∷ F)
     onward-through f qg F h = rw (next-length f qg, append-snoc f qg F) at h
 
-    pub renewals-through : (f F : Pages) → Idle mark b picks (length f) F → Keeping (f ++ F) → Through (suc k′) Keeping (renewals mark picks (length f) (map (page mark) F)) (f ++ F)
+    pub renewals-through : (f F : Pages) → Idle edition b picks (length f) F → Keeping (f ++ F) → Through (suc k′) Keeping (renewals edition picks (length f) (map (page edition) F)) (f ++ F)
     unfolding renewals add-steps page Idle
     renewals-through f [] i h = end h
     renewals-through f (pg ∷ F) i h =
-        by-cases (picks (length f) (state mark pg))
+        by-cases (picks (length f) (state edition pg))
         (λ t.
-        let w = renewed-wear (wear-in mark pg) in
+        let w = renewed-wear (wear-in edition pg) in
         let first = renew-through f pg F w (i .0 t) h in
-        let done = renew-run mark k′ f pg F w in
-        let kept : Keeping ((f ++ fresh mark k′ w ∷ []) ++ F) = rw append-snoc (subst Keeping done (through-end (suc k′) first)) in
-        let rest = renewals-through (f ++ fresh mark k′ w ∷ []) F (rw (next-length f (fresh mark k′ w)) (i .1)) kept in
-        rw t (through-append (suc k′) (rest-steps mark k′ picks (suc (length f)) F) first (subst (Through (suc k′) Keeping _) (sym done) (onward-through f (fresh mark k′ w) F rest))))
+        let done = renew-run edition k′ f pg F w in
+        let kept : Keeping ((f ++ fresh edition k′ w ∷ []) ++ F) = rw append-snoc (subst Keeping done (through-end (suc k′) first)) in
+        let rest = renewals-through (f ++ fresh edition k′ w ∷ []) F (rw (next-length f (fresh edition k′ w)) (i .1)) kept in
+        rw t (through-append (suc k′) (rest-steps edition k′ picks (suc (length f)) F) first (subst (Through (suc k′) Keeping _) (sym done) (onward-through f (fresh edition k′ w) F rest))))
         (λ t.
         let rest = renewals-through (f ++ pg ∷ []) F (rw (next-length f pg) (i .1)) (rw append-snoc h) in
         rw t (onward-through f pg F rest))

@@ -27,8 +27,8 @@ use Rattle.promise.proofs.Move.{move-turns}
 use Rattle.promise.proofs.Good.{Good, turns-map, append-case, ordered, good-under, journal-is, lawful-journal, open-good}
 
 -- a good store in which each address has the value that t gives
-abbrev pub Has : (mark k n L : ℕ) → (ℕ → Option ℕ) → Pages → Type 0
-Has mark k n L t F = (J : List Setting) × Good mark k n L J F × ((x : ℕ) → last-of x J ≡ t x)
+abbrev pub Has : (edition k n L : ℕ) → (ℕ → Option ℕ) → Pages → Type 0
+Has edition k n L t F = (J : List Setting) × Good edition k n L J F × ((x : ℕ) → last-of x J ≡ t x)
 
 -- the values before a write, and after it
 abbrev pub old-values : List Setting → ℕ → Option ℕ
@@ -38,13 +38,13 @@ abbrev pub new-values : List Setting → (a v : ℕ) → ℕ → Option ℕ
 new-values J a v x = last-of x (J ++ setting a v ∷ [])
 
 -- what makes a write acceptable: the table's rows 4 to 6
-pub record Accepted (mark k n L : ℕ) (a v : ℕ) (J : List Setting) (F : Pages) : Type 0 where
-  pub good : Good mark k n L J F
-  pub clean : count (unclean (good .base-order)) (states (told mark F)) ≡ 0
+pub record Accepted (edition k n L : ℕ) (a v : ℕ) (J : List Setting) (F : Pages) : Type 0 where
+  pub good : Good edition k n L J F
+  pub clean : count (unclean (good .base-order)) (states (told edition F)) ≡ 0
   pub address : a ≡ 65535 → ⊥
   pub room : last-of a J ≡ none → length (put-all [] J) < L
 
-module _ (mark m′ n L : ℕ) (a v : ℕ) (J : List Setting) (two : 2 ≤ n) (wide : L ≤ suc m′) where
+module _ (edition m′ n L : ℕ) (a v : ℕ) (J : List Setting) (two : 2 ≤ n) (wide : L ≤ suc m′) where
   abbrev m : ℕ
   m = suc m′
 
@@ -52,70 +52,70 @@ module _ (mark m′ n L : ℕ) (a v : ℕ) (J : List Setting) (two : 2 ≤ n) (w
   k = suc (suc (suc m))
 
   abbrev Old : Pages → Type 0
-  Old = Has mark k n L (old-values J)
+  Old = Has edition k n L (old-values J)
 
   abbrev New : Pages → Type 0
-  New = Has mark k n L (new-values J a v)
+  New = Has edition k n L (new-values J a v)
 
-  was : (G : Pages) → Good mark k n L J G → Old G
+  was : (G : Pages) → Good edition k n L J G → Old G
   was G h = (J, h, λ x. refl)
 
-  is : (G : Pages) → Good mark k n L (J ++ setting a v ∷ []) G → New G
+  is : (G : Pages) → Good edition k n L (J ++ setting a v ∷ []) G → New G
   is G h = (J ++ setting a v ∷ [], h, λ x. refl)
 
-  module _ (f : Pages) (w : Word) (r : Pages) (g : Good mark k n L J (f ++ taken-page m w ∷ r)) (worn : is-wear mark w ≡ true) (ne : a ≡ 65535 → ⊥) (room : last-of a J ≡ none → length (put-all [] J) < L) where
+  module _ (f : Pages) (w : Word) (r : Pages) (g : Good edition k n L J (f ++ taken-page m w ∷ r)) (worn : is-wear edition w ≡ true) (ne : a ≡ 65535 → ⊥) (room : last-of a J ≡ none → length (put-all [] J) < L) where
     abbrev copied : List Setting
     copied = but a (put-all [] J) ++ setting a v ∷ []
 
     copied-lawful : Lawful copied
     unfolding Lawful
     copied-lawful =
-        lawful-append (but a (put-all [] J)) (setting a v ∷ []) (but-lawful a (put-all [] J) (put-all-lawful [] J tt (lawful-journal mark m n L J (f ++ taken-page m w ∷ r) g))) (ne, tt)
+        lawful-append (but a (put-all [] J)) (setting a v ∷ []) (but-lawful a (put-all [] J) (put-all-lawful [] J tt (lawful-journal edition m n L J (f ++ taken-page m w ∷ r) g))) (ne, tt)
 
-    moved-good : (o : ℕ) (G : Pages) → Keeps mark k n o (o ∷ []) copied G → New G
+    moved-good : (o : ℕ) (G : Pages) → Keeps edition k n o (o ∷ []) copied G → New G
     unfolding repeats among
     moved-good o G h =
         (copied, record { base-order = o; used-by = o ∷ []; keeps = h; apart = refl; spare = two; some = omega arith; few = copies-few a v J L (g .few) room }, λ x. copies-last x a v J)
 
-    kept-good : (G : Pages) → Keeps mark k n (g .base-order) (g .used-by) J G → Old G
+    kept-good : (G : Pages) → Keeps edition k n (g .base-order) (g .used-by) J G → Old G
     kept-good G h = was G (record { base-order = g .base-order; used-by = g .used-by; keeps = h; apart = g .apart; spare = g .spare; some = g .some; few = g .few })
 
-    move-good : taken (told mark (f ++ taken-page m w ∷ r)) ≡ length f → Turns k Old New (move-steps mark a v (told mark (f ++ taken-page m w ∷ r))) (f ++ taken-page m w ∷ r)
+    move-good : taken (told edition (f ++ taken-page m w ∷ r)) ≡ length f → Turns k Old New (move-steps edition a v (told edition (f ++ taken-page m w ∷ r))) (f ++ taken-page m w ∷ r)
     unfolding move-steps copies settings
     move-good place =
         let F = f ++ taken-page m w ∷ r in
-        let o = active-order (states (told mark F)) + 1 in
+        let o = active-order (states (told edition F)) + 1 in
         let fits : length copied ≤ m = (let x = copies-length a v J L (g .few) room in omega arith) in
-        rw (place, journal-is mark m n L J F g)
-        (turns-map k kept-good (moved-good o) (move-turns mark m n (g .base-order) (g .used-by) J f w r o worn (good-under mark m n L J F g) (g .some) (g .keeps) copied copied-lawful fits))
+        rw (place, journal-is edition m n L J F g)
+        (turns-map k kept-good (moved-good o) (move-turns edition m n (g .base-order) (g .used-by) J f w r o worn (good-under edition m n L J F g) (g .some) (g .keeps) copied copied-lawful fits))
 
   -- the page that is taken stands between the others
-  module _ (f : Pages) (w : Word) (r : Pages) (h : Accepted mark k n L a v J (f ++ taken-page m w ∷ r)) (worn : is-wear mark w ≡ true) (place : taken (told mark (f ++ taken-page m w ∷ r)) ≡ length f) where
-    open-accepted : leb 2 (count is-cleared (states (told mark (f ++ taken-page m w ∷ r)))) ≡ true → Turns k Old New (open-steps a v (told mark (f ++ taken-page m w ∷ r))) (f ++ taken-page m w ∷ r)
+  module _ (f : Pages) (w : Word) (r : Pages) (h : Accepted edition k n L a v J (f ++ taken-page m w ∷ r)) (worn : is-wear edition w ≡ true) (place : taken (told edition (f ++ taken-page m w ∷ r)) ≡ length f) where
+    open-accepted : leb 2 (count is-cleared (states (told edition (f ++ taken-page m w ∷ r)))) ≡ true → Turns k Old New (open-steps a v (told edition (f ++ taken-page m w ∷ r))) (f ++ taken-page m w ∷ r)
     open-accepted c =
-        let all = some-cleared mark k (h .good .base-order) n (h .good .used-by) (f ++ taken-page m w ∷ r) (ordered mark m n L J (f ++ taken-page m w ∷ r) (h .good)) (h .good .keeps .count) (h .clean) in
-        let l = leb-true 2 (count is-cleared (states (told mark (f ++ taken-page m w ∷ r)))) c in
-        turns-map k was is (open-good mark m′ n L J f w r (h .good) worn a v (h .address) (h .room) (omega arith) place)
+        let all = some-cleared edition k (h .good .base-order) n (h .good .used-by) (f ++ taken-page m w ∷ r) (ordered edition m n L J (f ++ taken-page m w ∷ r) (h .good)) (h .good .keeps .count) (h .clean) in
+        let l = leb-true 2 (count is-cleared (states (told edition (f ++ taken-page m w ∷ r)))) c in
+        turns-map k was is (open-good edition m′ n L J f w r (h .good) worn a v (h .address) (h .room) (omega arith) place)
 
-    move-accepted : Turns k Old New (move-steps mark a v (told mark (f ++ taken-page m w ∷ r))) (f ++ taken-page m w ∷ r)
+    move-accepted : Turns k Old New (move-steps edition a v (told edition (f ++ taken-page m w ∷ r))) (f ++ taken-page m w ∷ r)
     move-accepted = move-good f w r (h .good) worn (h .address) (h .room) place
 
   -- an accepted write that has steps
-  pub write-turns : (F : Pages) → Accepted mark k n L a v J F → is-value (last-of a J) v ≡ false → Turns k Old New (write-steps mark a v (told mark F)) F
+  pub write-turns : (F : Pages) → Accepted edition k n L a v J F → is-value (last-of a J) v ≡ false → Turns k Old New (write-steps edition a v (told edition F)) F
   unfolding write-steps value
   write-turns F h fresh =
       let g = h .good in
-      let all = some-cleared mark k (g .base-order) n (g .used-by) F (ordered mark m n L J F g) (g .keeps .count) (h .clean) in
+      let all = some-cleared edition k (g .base-order) n (g .used-by) F (ordered edition m n L J F g) (g .keeps .count) (h .clean) in
       let sp = g .spare in
-      let t = takes mark m F (ordered mark m n L J F g .long) (λ z. omega arith) in
-      let h′ = subst (Accepted mark k n L a v J) (t .form) h in
-      let p′ : taken (told mark (t .front ++ taken-page m (t .first) ∷ t .rest)) ≡ length (t .front) = subst (λ (G : Pages). taken (told mark G) ≡ length (t .front)) (t .form) (t .place) in
-      rw (journal-is mark m n L J F g, fresh)
-      (by-cases (has-free-slot (told mark F))
-      (λ s. rw s (turns-map k was is (append-case mark m n L J F g a v (h .address) (h .room) s)))
+      let t = takes edition m F (ordered edition m n L J F g .long) (λ z. omega arith) in
+      let h′ = subst (Accepted edition k n L a v J) (t .form) h in
+      let p′ : taken (told edition (t .front ++ taken-page m (t .first) ∷ t .rest)) ≡ length (t .front) = subst (λ (G : Pages). taken (told edition G) ≡ length (t .front)) (t .form) (t .place) in
+      rw (journal-is edition m n L J F g, fresh)
+      (by-cases (has-free-slot (told edition F))
+      (λ s. rw s (turns-map k was is (append-case edition m n L J F g a v (h .address) (h .room) s)))
       (λ s.
       rw s
-      (by-cases (leb 2 (count is-cleared (states (told mark F))))
-      (λ c. rw c (subst⁻¹ (λ (G : Pages). Turns k Old New (open-steps a v (told mark G)) G) (t .form)
-      (open-accepted (t .front) (t .first) (t .rest) h′ (t .worn) p′ (subst (λ (G : Pages). leb 2 (count is-cleared (states (told mark G))) ≡ true) (t .form) c))))
-      (λ c. rw c (subst⁻¹ (λ (G : Pages). Turns k Old New (move-steps mark a v (told mark G)) G) (t .form) (move-accepted (t .front) (t .first) (t .rest) h′ (t .worn) p′))))))
+      (by-cases (leb 2 (count is-cleared (states (told edition F))))
+      (λ c. rw c (subst⁻¹ (λ (G : Pages). Turns k Old New (open-steps a v (told edition G)) G) (t .form)
+      (open-accepted (t .front) (t .first) (t .rest) h′ (t .worn) p′ (subst (λ (G : Pages). leb 2 (count is-cleared (states (told edition G))) ≡ true) (t .form) c))))
+      (λ c. rw c (subst⁻¹ (λ (G : Pages). Turns k Old New (move-steps edition a v (told edition G)) G) (t .form) (move-accepted (t .front) (t .first) (t .rest) h′ (t .worn) p′))))))

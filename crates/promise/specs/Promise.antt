@@ -7,7 +7,7 @@ use mathlib.Core.List.{List, [], _∷_}
 use Rattle.rules.specs.Flash.{Step, after, run, Fails}
 use Rattle.rules.specs.Store.{states}
 use Rattle.rules.specs.Steps.{recovery-steps, write-steps}
-use Rattle.rules.specs.Call.{page-size, page-mark, pages, wrong-size, store-number, is-unclean, write-number, OK, NO-STORE, DAMAGED, UNCLEAN, Reading, format, write, read}
+use Rattle.rules.specs.Call.{page-size, page-edition, pages, wrong-size, store-number, is-unclean, write-number, OK, NO-STORE, DAMAGED, UNCLEAN, Reading, format, write, read}
 
 -- Power fails in a list of steps: n of them are done, and the next, if there is one, is not begun or fails. With n the number
 -- of steps the list is finished.
@@ -17,10 +17,10 @@ pub data Left (size : ℕ) : ℕ → List Step → (before left : List ℕ) → 
   later : {n : ℕ} {s : Step} {ss : List Step} {i j : List ℕ} → Left size n ss (after size s i) j → Left size (suc n) (s ∷ ss) i j
 
 abbrev pub recovery-of : List ℕ → List Step
-recovery-of i = recovery-steps page-mark (pages i)
+recovery-of i = recovery-steps page-edition (pages i)
 
 abbrev pub write-of : (address value : ℕ) → List ℕ → List Step
-write-of a v i = write-steps page-mark a v (pages i)
+write-of a v i = write-steps page-edition a v (pages i)
 
 -- "Take a store whose last format finished and which only our calls have touched since. Power may have failed in any step of
 -- a write or recovery, as 01 describes a failing step." A write is in its history if it was accepted; that a recovery has

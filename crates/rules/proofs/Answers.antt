@@ -11,7 +11,7 @@ use borrow.Author.Tests.{le-leb, lt-leb, eq-eqb, ne-eqb}
 use Rattle.rules.specs.Flash.{Step, run}
 use Rattle.rules.specs.Store.{states, value, last-of}
 use Rattle.rules.specs.Steps.{format-steps, recovery-steps, write-steps, is-value}
-use Rattle.rules.specs.Call.{page-size, page-mark, page-count, pages, wrong-size, store-number, then, write-number, blank-read-number, read-number, is-unclean, wrong-address, is-held, no-room, order-end, accepted, Formatted, format, Stepped, stepped, recover, write, Reading, read, not-held-value, or-value, blank-value, blank-read, digits, among, Pairing, lookup, OK, SIZE, ADDRESS, NOT-HELD, UNCLEAN, NO-ROOM, ORDER-END}
+use Rattle.rules.specs.Call.{page-size, page-edition, page-count, pages, wrong-size, store-number, then, write-number, blank-read-number, read-number, is-unclean, wrong-address, is-held, no-room, order-end, accepted, Formatted, format, Stepped, stepped, recover, write, Reading, read, not-held-value, or-value, blank-value, blank-read, digits, among, Pairing, lookup, OK, SIZE, ADDRESS, NOT-HELD, UNCLEAN, NO-ROOM, ORDER-END}
 
 -- ---- numbers
 
@@ -42,7 +42,7 @@ pub format-refused : (i : List ℕ) → wrong-size i ≡ true → format i ≡ r
 unfolding format
 format-refused i w = rw w
 
-pub format-done : (i : List ℕ) → wrong-size i ≡ false → format i ≡ record { number = OK; image = run page-size (format-steps page-mark (page-count i)) i }
+pub format-done : (i : List ℕ) → wrong-size i ≡ false → format i ≡ record { number = OK; image = run page-size (format-steps page-edition (page-count i)) i }
 unfolding format
 format-done i w = rw w
 

@@ -41,20 +41,20 @@ copies-none p k [] = λ ys. refl
 copies-none p k (setting a v ∷ rs) = none-then (word-steps p (slot-place k) (record-word a v)) (copy-steps p (suc k) rs) (word-none p (slot-place k) (record-word a v)) (copies-none p (suc k) rs)
 
 -- pages are renewed by erasing them first
-renewals-erase : (mark : ℕ) (picks : ℕ → State → Bool) (k : ℕ) (ps : List Page) → until-erase (renewals mark picks k ps) ≡ []
+renewals-erase : (edition : ℕ) (picks : ℕ → State → Bool) (k : ℕ) (ps : List Page) → until-erase (renewals edition picks k ps) ≡ []
 unfolding until-erase renewals add-steps renew
-renewals-erase mark picks k [] = refl
-renewals-erase mark picks k (p ∷ ps) = by-cases (picks k (p .state)) (λ e. rw e) (λ e. rw e (renewals-erase mark picks (suc k) ps))
+renewals-erase edition picks k [] = refl
+renewals-erase edition picks k (p ∷ ps) = by-cases (picks k (p .state)) (λ e. rw e) (λ e. rw e (renewals-erase edition picks (suc k) ps))
 
-pub done-before-erase : (mark a v : ℕ) (ps : List Page) → until-erase (move-steps mark a v ps) ≡ making a v ps
+pub done-before-erase : (edition a v : ℕ) (ps : List Page) → until-erase (move-steps edition a v ps) ≡ making a v ps
 unfolding move-steps making
-done-before-erase mark a v ps =
+done-before-erase edition a v ps =
     let t = taken ps in
     let o = active-order (states ps) + 1 in
     let opening = word-steps t opening-place (opening-word 2 o) in
     let copied = copy-steps t 0 (copies a v ps) in
     let done = word-steps t done-place (done-word o) in
     let made = none-then (opening ++ copied) done (none-then opening copied (word-none t opening-place (opening-word 2 o)) (copies-none t 0 (copies a v ps))) (word-none t done-place (done-word o)) in
-    made (renewals mark (λ k s. not (eqb k t)) 0 ps)
-    ∙ ap (λ (ss : List Step). opening ++ copied ++ done ++ ss) (renewals-erase mark (λ k s. not (eqb k t)) 0 ps)
+    made (renewals edition (λ k s. not (eqb k t)) 0 ps)
+    ∙ ap (λ (ss : List Step). opening ++ copied ++ done ++ ss) (renewals-erase edition (λ k s. not (eqb k t)) 0 ps)
     ∙ append-nil (opening ++ copied ++ done)

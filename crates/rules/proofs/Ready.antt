@@ -14,7 +14,7 @@ use Rattle.rules.specs.Word.{Word, words, word-steps, record-word, openi
 use Rattle.rules.specs.Page.{State, cleared, open₁, open₂, receiving, bad, Page, page, blank-word, slot-place, opening-place, done-place}
 use Rattle.rules.specs.Store.{states, order₂, base, used, is-open, is-cleared, used-orders, used-pages, active-order, active-index, free-slot, active-slots, count, held, Setting}
 use Rattle.rules.specs.Steps.{format-steps, append-steps, open-steps, unclean, taken, copies, copy-steps, has-free-slot}
-use Rattle.rules.specs.Call.{page-size, page-mark, page-count, cut, pages, wrong-size, no-store, repeats, all-used, damaged, is-unclean, store-number, OK, SIZE, NO-STORE, DAMAGED, held-limit}
+use Rattle.rules.specs.Call.{page-size, page-edition, page-count, cut, pages, wrong-size, no-store, repeats, all-used, damaged, is-unclean, store-number, OK, SIZE, NO-STORE, DAMAGED, held-limit}
 use Rattle.rules.proofs.Truth.{failed, by-cases, not-both, is-false, or-false-left, or-false-right}
 use Rattle.rules.proofs.Cut.{cut-length, cut-all-length}
 use Rattle.rules.proofs.Phases.{Pages, Through}
@@ -49,13 +49,13 @@ unfolding cut
 cut-cons zero i l = absurd (omega arith)
 cut-cons (suc n) i l = (_, _, refl, ap suc (sym (cut-length page-size n (drop page-size i))))
 
-pub format-allowed : (i : List ℕ) → wrong-size i ≡ false → AllAllowed 1024 (format-steps page-mark (page-count i)) i
+pub format-allowed : (i : List ℕ) → wrong-size i ≡ false → AllAllowed 1024 (format-steps page-edition (page-count i)) i
 format-allowed i w =
     let s = right-sizes i w in
     let l = s .least in
     let p = cut-cons (page-count i) i (omega arith) in
-    subst (λ (n : ℕ). AllAllowed 1024 (format-steps page-mark n) i) (sym (p .3))
-    (through-allowed 256 (page-count i) (format-steps page-mark (suc (length (p .1)))) i (subst (Through 256 Any (format-steps page-mark (suc (length (p .1))))) (sym (p .2)) (format-through page-mark 253 (p .0) (p .1))) (s .sized))
+    subst (λ (n : ℕ). AllAllowed 1024 (format-steps page-edition n) i) (sym (p .3))
+    (through-allowed 256 (page-count i) (format-steps page-edition (suc (length (p .1)))) i (subst (Through 256 Any (format-steps page-edition (suc (length (p .1))))) (sym (p .2)) (format-through page-edition 253 (p .0) (p .1))) (s .sized))
 
 -- ---- a store with an open page has a used one
 
@@ -141,7 +141,7 @@ module _ (i : List ℕ) (ok : store-number i ≡ OK) where
   sizes : Sizes i
   sizes = right-sizes i size-right
 
-  pub ordered : Ordered page-mark 256 base-of orders-of words-of
+  pub ordered : Ordered page-edition 256 base-of orders-of words-of
   unfolding pages damaged no-store
   ordered =
       record {
@@ -158,17 +158,17 @@ module _ (i : List ℕ) (ok : store-number i ≡ OK) where
 
   pub append-allowed : (a v : ℕ) → has-free-slot (pages i) ≡ true → AllAllowed 1024 (append-steps a v (pages i)) i
   unfolding pages append-steps
-  append-allowed a v free = into (active-free page-mark 253 base-of orders-of words-of ordered free)
+  append-allowed a v free = into (active-free page-edition 253 base-of orders-of words-of ordered free)
     where
-      into : (hd : Headed 253 (at-active page-mark 256 base-of orders-of words-of ordered .here)) × FreeAt (hd .ws) × (free-slot (active-slots (told page-mark words-of)) ≡ free-slot (hd .ws)) → AllAllowed 1024 (append-steps a v (pages i)) i
+      into : (hd : Headed 253 (at-active page-edition 256 base-of orders-of words-of ordered .here)) × FreeAt (hd .ws) × (free-slot (active-slots (told page-edition words-of)) ≡ free-slot (hd .ws)) → AllAllowed 1024 (append-steps a v (pages i)) i
       into t =
           let hd = t .0 in
           let at = t .1 in
-          let p = at-active page-mark 256 base-of orders-of words-of ordered in
+          let p = at-active page-edition 256 base-of orders-of words-of ordered in
           let form : words-of ≡ p .front ++ (hd .x ∷ hd .y ∷ hd .z ∷ (at .front ++ blank-word ∷ at .rest)) ∷ p .rest =
           p .form ∙ ap (λ (q : List Word). p .front ++ q ∷ p .rest) (hd .form ∙ ap (λ (ws : List Word). hd .x ∷ hd .y ∷ hd .z ∷ ws) (at .form)) in
           allowed (append-steps a v (pages i))
-          (rw (active-place page-mark 256 base-of orders-of words-of ordered, t .2 ∙ sym (at .place))
+          (rw (active-place page-edition 256 base-of orders-of words-of ordered, t .2 ∙ sym (at .place))
           (subst (Through 256 Any (word-steps (length (p .front)) (slot-place (length (at .front))) (record-word a v))) (sym form)
           (append-any 256 (p .front) (hd .x) (hd .y) (hd .z) (at .front) (at .rest) (p .rest) a v)))
 
@@ -176,8 +176,8 @@ module _ (i : List ℕ) (ok : store-number i ≡ OK) where
   pub active-within : active-index (states (pages i)) < page-count i
   unfolding pages
   active-within =
-      let p = at-active page-mark 256 base-of orders-of words-of ordered in
-      let e = active-place page-mark 256 base-of orders-of words-of ordered in
+      let p = at-active page-edition 256 base-of orders-of words-of ordered in
+      let e = active-place page-edition 256 base-of orders-of words-of ordered in
       let l = ap length (p .form) in
       let m = length-append (p .front) (p .here ∷ p .rest) in
       let n = cut-length page-size (page-count i) i in
@@ -187,7 +187,7 @@ module _ (i : List ℕ) (ok : store-number i ≡ OK) where
     pub cleared-there : length orders-of + count is-cleared (states (pages i)) ≡ page-count i
     unfolding pages is-unclean
     cleared-there =
-        some-cleared page-mark 256 base-of (page-count i) orders-of words-of ordered (cut-length page-size (page-count i) i)
+        some-cleared page-edition 256 base-of (page-count i) orders-of words-of ordered (cut-length page-size (page-count i) i)
         (eqb-true _ 0 (not-false _ clean))
 
     one-spare : length orders-of < page-count i
@@ -197,15 +197,15 @@ module _ (i : List ℕ) (ok : store-number i ≡ OK) where
         let ne = eqb-false (count (used base-of) (states (pages i))) (length (states (pages i))) (or-false-left (all-used (states (pages i))) _ rest) in
         let u = count-used base-of (pages i) in
         let c = cleared-there in
-        let l : length (states (pages i)) ≡ page-count i = length-states (pages i) ∙ length-map words-of (page page-mark) ∙ cut-length page-size (page-count i) i in
+        let l : length (states (pages i)) ≡ page-count i = length-states (pages i) ∙ length-map words-of (page page-edition) ∙ cut-length page-size (page-count i) i in
         less (length orders-of) (count (used base-of) (states (pages i))) (count is-cleared (states (pages i))) (page-count i) (length (states (pages i))) u c l ne
       where
         less : (o u c n l : ℕ) → o ≡ u → o + c ≡ n → l ≡ n → (u ≡ l → ⊥) → o < n
         less o u c n l e f g ne = omega arith
 
-    pub taking : Takes page-mark 253 words-of
+    pub taking : Takes page-edition 253 words-of
     unfolding pages
-    taking = let c = cleared-there in let s = one-spare in takes page-mark 253 words-of (ordered .long) (λ z. omega arith)
+    taking = let c = cleared-there in let s = one-spare in takes page-edition 253 words-of (ordered .long) (λ z. omega arith)
 
     pub open-allowed : (a v : ℕ) → AllAllowed 1024 (open-steps a v (pages i)) i
     unfolding pages open-steps

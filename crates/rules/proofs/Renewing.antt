@@ -17,99 +17,99 @@ use Rattle.rules.proofs.Phases.{Pages, Through, Fits, end, step, store-
 use Rattle.rules.proofs.Building.{Any}
 
 -- a renewed page
-abbrev pub fresh : (mark k′ wear : ℕ) → List Word
-fresh mark k′ wear = wear-word mark wear ∷ replicate k′ blank-word
+abbrev pub fresh : (edition k′ wear : ℕ) → List Word
+fresh edition k′ wear = wear-word edition wear ∷ replicate k′ blank-word
 
 -- the pages as renewed
-unfoldable pub renewed : (mark k′ : ℕ) → (ℕ → State → Bool) → ℕ → Pages → Pages
-renewed mark k′ picks i [] = []
-renewed mark k′ picks i (pg ∷ F) = cond (picks i (state mark pg)) (fresh mark k′ (renewed-wear (wear-in mark pg))) pg ∷ renewed mark k′ picks (suc i) F
+unfoldable pub renewed : (edition k′ : ℕ) → (ℕ → State → Bool) → ℕ → Pages → Pages
+renewed edition k′ picks i [] = []
+renewed edition k′ picks i (pg ∷ F) = cond (picks i (state edition pg)) (fresh edition k′ (renewed-wear (wear-in edition pg))) pg ∷ renewed edition k′ picks (suc i) F
 
 pub next-length : (f : Pages) (qg : List Word) → length (f ++ qg ∷ []) ≡ suc (length f)
 next-length f qg = let e = length-append f (qg ∷ []) in omega arith
 
-module _ (mark k′ : ℕ) (f : Pages) (pg : List Word) (r : Pages) (wear : ℕ) where
+module _ (edition k′ : ℕ) (f : Pages) (pg : List Word) (r : Pages) (wear : ℕ) where
   pub erased : store-after (suc k′) (erase (length f)) (f ++ pg ∷ r) ≡ f ++ replicate (suc k′) blank-word ∷ r
   unfolding target page-after
   erased = after-amid (suc k′) f pg r (erase (length f)) refl
 
-  pub renew-run : store-run (suc k′) (renew mark (length f) wear) (f ++ pg ∷ r) ≡ f ++ fresh mark k′ wear ∷ r
+  pub renew-run : store-run (suc k′) (renew edition (length f) wear) (f ++ pg ∷ r) ≡ f ++ fresh edition k′ wear ∷ r
   unfolding renew store-run
   renew-run =
-      ap (store-run (suc k′) (word-steps (length f) 0 (wear-word mark wear))) erased
-      ∙ word-run (suc k′) f r [] (replicate k′ blank-word) (wear-word mark wear)
+      ap (store-run (suc k′) (word-steps (length f) 0 (wear-word edition wear))) erased
+      ∙ word-run (suc k′) f r [] (replicate k′ blank-word) (wear-word edition wear)
 
-module _ (mark k′ : ℕ) (picks : ℕ → State → Bool) where
+module _ (edition k′ : ℕ) (picks : ℕ → State → Bool) where
   -- the steps for the pages from the i-th on
   abbrev pub rest-steps : ℕ → Pages → List Step
-  rest-steps i F = renewals mark picks i (map (page mark) F)
+  rest-steps i F = renewals edition picks i (map (page edition) F)
 
   onward : (f : Pages) (qg : List Word) (F : Pages)
-      → store-run (suc k′) (rest-steps (length (f ++ qg ∷ [])) F) ((f ++ qg ∷ []) ++ F) ≡ (f ++ qg ∷ []) ++ renewed mark k′ picks (length (f ++ qg ∷ [])) F
-      → store-run (suc k′) (rest-steps (suc (length f)) F) (f ++ qg ∷ F) ≡ f ++ qg ∷ renewed mark k′ picks (suc (length f)) F
-  onward f qg F h = rw (next-length f qg, append-snoc f qg F, append-snoc f qg (renewed mark k′ picks (suc (length f)) F)) at h
+      → store-run (suc k′) (rest-steps (length (f ++ qg ∷ [])) F) ((f ++ qg ∷ []) ++ F) ≡ (f ++ qg ∷ []) ++ renewed edition k′ picks (length (f ++ qg ∷ [])) F
+      → store-run (suc k′) (rest-steps (suc (length f)) F) (f ++ qg ∷ F) ≡ f ++ qg ∷ renewed edition k′ picks (suc (length f)) F
+  onward f qg F h = rw (next-length f qg, append-snoc f qg F, append-snoc f qg (renewed edition k′ picks (suc (length f)) F)) at h
 
-  pub renewals-run : (f F : Pages) → store-run (suc k′) (rest-steps (length f) F) (f ++ F) ≡ f ++ renewed mark k′ picks (length f) F
+  pub renewals-run : (f F : Pages) → store-run (suc k′) (rest-steps (length f) F) (f ++ F) ≡ f ++ renewed edition k′ picks (length f) F
   unfolding renewals renewed add-steps page store-run
   renewals-run f [] = refl
   renewals-run f (pg ∷ F) =
-      by-cases (picks (length f) (state mark pg))
+      by-cases (picks (length f) (state edition pg))
       (λ t.
-      let w = renewed-wear (wear-in mark pg) in
+      let w = renewed-wear (wear-in edition pg) in
       rw t
-      (store-run-append (suc k′) (renew mark (length f) w) (rest-steps (suc (length f)) F) (f ++ pg ∷ F)
-      ∙ ap (store-run (suc k′) (rest-steps (suc (length f)) F)) (renew-run mark k′ f pg F w)
-      ∙ onward f (fresh mark k′ w) F (renewals-run (f ++ fresh mark k′ w ∷ []) F)))
+      (store-run-append (suc k′) (renew edition (length f) w) (rest-steps (suc (length f)) F) (f ++ pg ∷ F)
+      ∙ ap (store-run (suc k′) (rest-steps (suc (length f)) F)) (renew-run edition k′ f pg F w)
+      ∙ onward f (fresh edition k′ w) F (renewals-run (f ++ fresh edition k′ w ∷ []) F)))
       (λ t. rw t (onward f pg F (renewals-run (f ++ pg ∷ []) F)))
 
 -- ---- format, of whatever stood there
 
-module _ (mark k′ : ℕ) where
-  renew-any : (f : Pages) (pg : List Word) (r : Pages) (wear : ℕ) → Through (suc k′) Any (renew mark (length f) wear) (f ++ pg ∷ r)
+module _ (edition k′ : ℕ) where
+  renew-any : (f : Pages) (pg : List Word) (r : Pages) (wear : ℕ) → Through (suc k′) Any (renew edition (length f) wear) (f ++ pg ∷ r)
   unfolding renew Fits
   renew-any f pg r wear =
-      let rest = word-through (suc k′) f r [] (replicate k′ blank-word) Any (wear-word mark wear) (wear-sound mark wear) (λ v l. tt) in
-      step (here-fits (suc k′) f pg r) tt (λ G x. tt) (subst (Through (suc k′) Any _) (sym (erased mark k′ f pg r wear)) rest)
+      let rest = word-through (suc k′) f r [] (replicate k′ blank-word) Any (wear-word edition wear) (wear-sound edition wear) (λ v l. tt) in
+      step (here-fits (suc k′) f pg r) tt (λ G x. tt) (subst (Through (suc k′) Any _) (sym (erased edition k′ f pg r wear)) rest)
 
   abbrev all-fresh : Pages → Pages
-  all-fresh r = replicate (length r) (fresh mark k′ 1)
+  all-fresh r = replicate (length r) (fresh edition k′ 1)
 
-  renew-all-run : (f r : Pages) → store-run (suc k′) (renew-all mark (length f) (length r)) (f ++ r) ≡ f ++ all-fresh r
+  renew-all-run : (f r : Pages) → store-run (suc k′) (renew-all edition (length f) (length r)) (f ++ r) ≡ f ++ all-fresh r
   unfolding renew-all store-run
   renew-all-run f [] = refl
   renew-all-run f (pg ∷ r) =
-      let q = fresh mark k′ 1 in
-      store-run-append (suc k′) (renew mark (length f) 1) (renew-all mark (suc (length f)) (length r)) (f ++ pg ∷ r)
-      ∙ ap (store-run (suc k′) (renew-all mark (suc (length f)) (length r))) (renew-run mark k′ f pg r 1)
+      let q = fresh edition k′ 1 in
+      store-run-append (suc k′) (renew edition (length f) 1) (renew-all edition (suc (length f)) (length r)) (f ++ pg ∷ r)
+      ∙ ap (store-run (suc k′) (renew-all edition (suc (length f)) (length r))) (renew-run edition k′ f pg r 1)
       ∙ (rw (next-length f q, append-snoc f q r, append-snoc f q (all-fresh r)) at (renew-all-run (f ++ q ∷ []) r))
 
-  renew-all-through : (f r : Pages) → Through (suc k′) Any (renew-all mark (length f) (length r)) (f ++ r)
+  renew-all-through : (f r : Pages) → Through (suc k′) Any (renew-all edition (length f) (length r)) (f ++ r)
   unfolding renew-all
   renew-all-through f [] = end tt
   renew-all-through f (pg ∷ r) =
-      let q = fresh mark k′ 1 in
-      let later = renew-all mark (suc (length f)) (length r) in
+      let q = fresh edition k′ 1 in
+      let later = renew-all edition (suc (length f)) (length r) in
       through-append (suc k′) later (renew-any f pg r 1)
-      (subst (Through (suc k′) Any later) (sym (renew-run mark k′ f pg r 1)) (rw (next-length f q, append-snoc f q r) at (renew-all-through (f ++ q ∷ []) r)))
+      (subst (Through (suc k′) Any later) (sym (renew-run edition k′ f pg r 1)) (rw (next-length f q, append-snoc f q r) at (renew-all-through (f ++ q ∷ []) r)))
 
-module _ (mark m : ℕ) where
+module _ (edition m : ℕ) where
   -- page 0, and the others
   abbrev pub opened : List Word
-  opened = wear-word mark 1 ∷ opening-word 1 0 ∷ replicate (suc m) blank-word
+  opened = wear-word edition 1 ∷ opening-word 1 0 ∷ replicate (suc m) blank-word
 
   abbrev pub formatted : ℕ → Pages
-  formatted n′ = opened ∷ replicate n′ (fresh mark (suc (suc m)) 1)
+  formatted n′ = opened ∷ replicate n′ (fresh edition (suc (suc m)) 1)
 
-  pub format-run : (pg : List Word) (r : Pages) → store-run (suc (suc (suc m))) (format-steps mark (suc (length r))) (pg ∷ r) ≡ formatted (length r)
+  pub format-run : (pg : List Word) (r : Pages) → store-run (suc (suc (suc m))) (format-steps edition (suc (length r))) (pg ∷ r) ≡ formatted (length r)
   unfolding format-steps
   format-run pg r =
-      store-run-append (suc (suc (suc m))) (renew-all mark 0 (suc (length r))) (word-steps 0 opening-place (opening-word 1 0)) (pg ∷ r)
-      ∙ ap (store-run (suc (suc (suc m))) (word-steps 0 opening-place (opening-word 1 0))) (renew-all-run mark (suc (suc m)) [] (pg ∷ r))
-      ∙ word-run (suc (suc (suc m))) [] (replicate (length r) (fresh mark (suc (suc m)) 1)) (wear-word mark 1 ∷ []) (replicate (suc m) blank-word) (opening-word 1 0)
+      store-run-append (suc (suc (suc m))) (renew-all edition 0 (suc (length r))) (word-steps 0 opening-place (opening-word 1 0)) (pg ∷ r)
+      ∙ ap (store-run (suc (suc (suc m))) (word-steps 0 opening-place (opening-word 1 0))) (renew-all-run edition (suc (suc m)) [] (pg ∷ r))
+      ∙ word-run (suc (suc (suc m))) [] (replicate (length r) (fresh edition (suc (suc m)) 1)) (wear-word edition 1 ∷ []) (replicate (suc m) blank-word) (opening-word 1 0)
 
-  pub format-through : (pg : List Word) (r : Pages) → Through (suc (suc (suc m))) Any (format-steps mark (suc (length r))) (pg ∷ r)
+  pub format-through : (pg : List Word) (r : Pages) → Through (suc (suc (suc m))) Any (format-steps edition (suc (length r))) (pg ∷ r)
   unfolding format-steps
   format-through pg r =
-      through-append (suc (suc (suc m))) (word-steps 0 opening-place (opening-word 1 0)) (renew-all-through mark (suc (suc m)) [] (pg ∷ r))
-      (subst (Through (suc (suc (suc m))) Any (word-steps 0 opening-place (opening-word 1 0))) (sym (renew-all-run mark (suc (suc m)) [] (pg ∷ r)))
-      (word-through (suc (suc (suc m))) [] (replicate (length r) (fresh mark (suc (suc m)) 1)) (wear-word mark 1 ∷ []) (replicate (suc m) blank-word) Any (opening-word 1 0) (opening-sound 1 0) (λ v l. tt)))
+      through-append (suc (suc (suc m))) (word-steps 0 opening-place (opening-word 1 0)) (renew-all-through edition (suc (suc m)) [] (pg ∷ r))
+      (subst (Through (suc (suc (suc m))) Any (word-steps 0 opening-place (opening-word 1 0))) (sym (renew-all-run edition (suc (suc m)) [] (pg ∷ r)))
+      (word-through (suc (suc (suc m))) [] (replicate (length r) (fresh edition (suc (suc m)) 1)) (wear-word edition 1 ∷ []) (replicate (suc m) blank-word) Any (opening-word 1 0) (opening-sound 1 0) (λ v l. tt)))

@@ -10,29 +10,29 @@ use Rattle.rules.proofs.Cut.{AllLength}
 use Rattle.rules.proofs.Phases.{Pages}
 
 -- what the pages say
-abbrev pub told : (mark : ℕ) → Pages → List Page
-told mark F = map (page mark) F
+abbrev pub told : (edition : ℕ) → Pages → List Page
+told edition F = map (page edition) F
 
-pub told-amid : (mark : ℕ) (f : Pages) (pg : List Word) (r : Pages) → told mark (f ++ pg ∷ r) ≡ told mark f ++ page mark pg ∷ told mark r
-told-amid mark f pg r = map-append (page mark) f (pg ∷ r)
+pub told-amid : (edition : ℕ) (f : Pages) (pg : List Word) (r : Pages) → told edition (f ++ pg ∷ r) ≡ told edition f ++ page edition pg ∷ told edition r
+told-amid edition f pg r = map-append (page edition) f (pg ∷ r)
 
 -- where what the pages say is parted, the pages can be
-pub record Parted (mark : ℕ) (F : Pages) (fp : List Page) (p : Page) (rp : List Page) : Type 0 where
+pub record Parted (edition : ℕ) (F : Pages) (fp : List Page) (p : Page) (rp : List Page) : Type 0 where
   pub front : Pages
   pub here : List Word
   pub rest : Pages
   pub form : F ≡ front ++ here ∷ rest
-  pub front-told : told mark front ≡ fp
-  pub here-told : page mark here ≡ p
-  pub rest-told : told mark rest ≡ rp
+  pub front-told : told edition front ≡ fp
+  pub here-told : page edition here ≡ p
+  pub rest-told : told edition rest ≡ rp
 
-pub parted : (mark : ℕ) (F : Pages) (fp : List Page) (p : Page) (rp : List Page) → told mark F ≡ fp ++ p ∷ rp → Parted mark F fp p rp
-parted mark [] [] p rp e = absurd (nil≢cons e)
-parted mark [] (x ∷ fp) p rp e = absurd (nil≢cons e)
-parted mark (pg ∷ F) [] p rp e =
+pub parted : (edition : ℕ) (F : Pages) (fp : List Page) (p : Page) (rp : List Page) → told edition F ≡ fp ++ p ∷ rp → Parted edition F fp p rp
+parted edition [] [] p rp e = absurd (nil≢cons e)
+parted edition [] (x ∷ fp) p rp e = absurd (nil≢cons e)
+parted edition (pg ∷ F) [] p rp e =
     record { front = []; here = pg; rest = F; form = refl; front-told = refl; here-told = head-eq-of-cons-eq e; rest-told = tail-eq-of-cons-eq e }
-parted mark (pg ∷ F) (x ∷ fp) p rp e =
-    let t = parted mark F fp p rp (tail-eq-of-cons-eq e) in
+parted edition (pg ∷ F) (x ∷ fp) p rp e =
+    let t = parted edition F fp p rp (tail-eq-of-cons-eq e) in
     record {
       front = pg ∷ t .front;
       here = t .here;

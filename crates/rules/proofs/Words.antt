@@ -153,9 +153,9 @@ pub wear-is : (m n : ℕ) → low16 (wear-word m n) ≡ n
 unfolding low16 wear-word checked
 wear-is m n = split16 n
 
-pub wear-mark : (m n : ℕ) → third (wear-word m n) ≡ m
+pub wear-edition : (m n : ℕ) → third (wear-word m n) ≡ m
 unfolding third wear-word checked
-wear-mark m n = refl
+wear-edition m n = refl
 
 pub wear-sound : (m n : ℕ) → sound (wear-word m n) ≡ true
 unfolding wear-word

@@ -15,8 +15,8 @@ use Rattle.rules.specs.Steps.{format-steps, recovery-steps, write-steps,
 abbrev pub page-size : ℕ
 page-size = 1024
 
-abbrev pub page-mark : ℕ
-page-mark = 1
+abbrev pub page-edition : ℕ
+page-edition = 1
 
 abbrev pub held-limit : ℕ
 held-limit = 192
@@ -61,7 +61,7 @@ unfoldable pub page-count : List ℕ → ℕ
 page-count i = length i / page-size
 
 unfoldable pub pages : List ℕ → List Page
-pages i = map (page page-mark) (cut page-size (page-count i) i)
+pages i = map (page page-edition) (cut page-size (page-count i) i)
 
 -- the table, row by row: "length is no multiple of 1,024, or pages below 2 or above 32"
 unfoldable pub wrong-size : List ℕ → Bool
@@ -162,7 +162,7 @@ accepted number = eqb number OK
 unfoldable pub format : List ℕ → Formatted
 format i =
     cond (wrong-size i) (record { number = SIZE; image = i })
-    (record { number = OK; image = run page-size (format-steps page-mark (page-count i)) i })
+    (record { number = OK; image = run page-size (format-steps page-edition (page-count i)) i })
 
 -- "They do that many of the steps fixed by the image at the call, or all if there are fewer, and answer the number done,
 -- and finished exactly if no step is left."
@@ -173,10 +173,10 @@ stepped number n ss i =
     (record { number = number; steps = 0; finished = false; image = i })
 
 unfoldable pub recover : (allowance : ℕ) → List ℕ → Stepped
-recover n i = stepped (store-number i) n (recovery-steps page-mark (pages i)) i
+recover n i = stepped (store-number i) n (recovery-steps page-edition (pages i)) i
 
 unfoldable pub write : (address value allowance : ℕ) → List ℕ → Stepped
-write a v n i = stepped (write-number a v i) n (write-steps page-mark a v (pages i)) i
+write a v n i = stepped (write-number a v i) n (write-steps page-edition a v (pages i)) i
 
 unfoldable pub or-value : Option ℕ → ℕ → ℕ
 or-value none other = other

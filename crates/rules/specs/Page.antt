@@ -36,13 +36,13 @@ done-place = 2
 abbrev pub slot-place : ℕ → ℕ
 slot-place k = 3 + k
 
--- "sound wear word with third byte 1": the byte is the mark
-unfoldable pub is-wear : (mark : ℕ) → Word → Bool
-is-wear mark w = sound w && eqb (third w) mark
+-- "sound wear word with third byte 1": the byte is the edition
+unfoldable pub is-wear : (edition : ℕ) → Word → Bool
+is-wear edition w = sound w && eqb (third w) edition
 
 -- the wear that a page's wear word gives, if it has such a word
-unfoldable pub wear-in : (mark : ℕ) → List Word → Option ℕ
-wear-in mark p = cond (is-wear mark (wear-part p)) (some (low16 (wear-part p))) none
+unfoldable pub wear-in : (edition : ℕ) → List Word → Option ℕ
+wear-in edition p = cond (is-wear edition (wear-part p)) (some (low16 (wear-part p))) none
 
 -- "a sound opening word of kind 1", "of kind 2"; the order that it gives
 unfoldable pub is-opening : (kind : ℕ) → Word → Bool
@@ -79,8 +79,8 @@ unfoldable pub state-by : List Word → Option ℕ → State
 state-by p none = bad
 state-by p (some wear) = state-after-wear p wear
 
-unfoldable pub state : (mark : ℕ) → List Word → State
-state mark p = state-by p (wear-in mark p)
+unfoldable pub state : (edition : ℕ) → List Word → State
+state edition p = state-by p (wear-in edition p)
 
 -- what the store knows of a page
 pub record Page : Type 0 where
@@ -88,5 +88,5 @@ pub record Page : Type 0 where
   pub wear : Option ℕ
   pub slots : List Word
 
-unfoldable pub page : (mark : ℕ) → List Word → Page
-page mark p = record { state = state mark p; wear = wear-in mark p; slots = slots p }
+unfoldable pub page : (edition : ℕ) → List Word → Page
+page edition p = record { state = state edition p; wear = wear-in edition p; slots = slots p }

@@ -11,16 +11,16 @@ use Rattle.rules.specs.Page.{State, Page, wear-place, opening-place, don
 use Rattle.rules.specs.Store.{states, base, used, is-cleared, active-order, active-index, active-slots, count, least-worn, index, Setting, setting, settings, value, free-slot}
 
 -- "erase, program its wear word (3 steps)"
-unfoldable pub renew : (mark index wear : ℕ) → List Step
-renew mark k n = erase k ∷ word-steps k wear-place (wear-word mark n)
+unfoldable pub renew : (edition index wear : ℕ) → List Step
+renew edition k n = erase k ∷ word-steps k wear-place (wear-word edition n)
 
 -- Format. "For each page in turn: erase, program wear word 1. Then the opening word of page 0: order 0, kind 1."
-unfoldable pub renew-all : (mark from pages : ℕ) → List Step
-renew-all mark k zero = []
-renew-all mark k (suc n) = renew mark k 1 ++ renew-all mark (suc k) n
+unfoldable pub renew-all : (edition from pages : ℕ) → List Step
+renew-all edition k zero = []
+renew-all edition k (suc n) = renew edition k 1 ++ renew-all edition (suc k) n
 
-unfoldable pub format-steps : (mark pages : ℕ) → List Step
-format-steps mark n = renew-all mark 0 n ++ word-steps 0 opening-place (opening-word 1 0)
+unfoldable pub format-steps : (edition pages : ℕ) → List Step
+format-steps edition n = renew-all edition 0 n ++ word-steps 0 opening-place (opening-word 1 0)
 
 -- Recovery. "The new wear is one more than that of the sound wear word (third byte 1) read before the erase, at most
 -- 65,535; a page without such a word gets 1."
@@ -33,17 +33,17 @@ unfoldable pub add-steps : Bool → List Step → List Step → List Step
 add-steps true these rest = these ++ rest
 add-steps false these rest = rest
 
-unfoldable pub renewals : (mark : ℕ) → (ℕ → State → Bool) → (from : ℕ) → List Page → List Step
-renewals mark picks k [] = []
-renewals mark picks k (p ∷ ps) =
-    add-steps (picks k (p .state)) (renew mark k (renewed-wear (p .wear))) (renewals mark picks (suc k) ps)
+unfoldable pub renewals : (edition : ℕ) → (ℕ → State → Bool) → (from : ℕ) → List Page → List Step
+renewals edition picks k [] = []
+renewals edition picks k (p ∷ ps) =
+    add-steps (picks k (p .state)) (renew edition k (renewed-wear (p .wear))) (renewals edition picks (suc k) ps)
 
 -- "Each page that is neither used nor cleared"
 unfoldable pub unclean : (base : ℕ) → State → Bool
 unclean b s = not (used b s || is-cleared s)
 
-unfoldable pub recovery-steps : (mark : ℕ) → List Page → List Step
-recovery-steps mark ps = renewals mark (λ k s. unclean (base (states ps)) s) 0 ps
+unfoldable pub recovery-steps : (edition : ℕ) → List Page → List Step
+recovery-steps edition ps = renewals edition (λ k s. unclean (base (states ps)) s) 0 ps
 
 -- Write. "Free slot in the active page: program the record there (2 steps)."
 unfoldable pub append-steps : (address value : ℕ) → List Page → List Step
@@ -73,12 +73,12 @@ copy-steps p k (setting a v ∷ rs) = word-steps p (slot-place k) (record-word a
 
 -- "program its opening word (active order + 1, kind 2). Copy ... Program the done word. Then treat every other page, in
 -- index order, as recovery does": no other page is used then, and none is cleared.
-unfoldable pub move-steps : (mark address value : ℕ) → List Page → List Step
-move-steps mark a v ps =
+unfoldable pub move-steps : (edition address value : ℕ) → List Page → List Step
+move-steps edition a v ps =
     word-steps (taken ps) opening-place (opening-word 2 (active-order (states ps) + 1))
     ++ copy-steps (taken ps) 0 (copies a v ps)
     ++ word-steps (taken ps) done-place (done-word (active-order (states ps) + 1))
-    ++ renewals mark (λ k s. not (eqb k (taken ps))) 0 ps
+    ++ renewals edition (λ k s. not (eqb k (taken ps))) 0 ps
 
 unfoldable pub has-free-slot : List Page → Bool
 has-free-slot ps = ltb (free-slot (active-slots ps)) (length (active-slots ps))
@@ -88,8 +88,8 @@ is-value none v = false
 is-value (some u) v = eqb u v
 
 -- "If the address holds that value already, there are no steps."
-unfoldable pub write-steps : (mark address value : ℕ) → List Page → List Step
-write-steps mark a v ps =
+unfoldable pub write-steps : (edition address value : ℕ) → List Page → List Step
+write-steps edition a v ps =
     cond (is-value (value a ps) v) []
     (cond (has-free-slot ps) (append-steps a v ps)
-    (cond (leb 2 (count is-cleared (states ps))) (open-steps a v ps) (move-steps mark a v ps)))
+    (cond (leb 2 (count is-cleared (states ps))) (open-steps a v ps) (move-steps edition a v ps)))

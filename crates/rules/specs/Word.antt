@@ -47,9 +47,9 @@ third (word a b c d) = c
 unfoldable pub checked : ℕ → ℕ → ℕ → Word
 checked a b c = word a b c (check a b c)
 
--- "wear word: wear (16 bits, low first), then the byte 1"; the byte is the page's mark
-unfoldable pub wear-word : (mark wear : ℕ) → Word
-wear-word mark wear = checked (wear % 256) (wear / 256) mark
+-- "wear word: wear (16 bits, low first), then the byte 1"; the byte is the edition
+unfoldable pub wear-word : (edition wear : ℕ) → Word
+wear-word edition wear = checked (wear % 256) (wear / 256) edition
 
 -- 24 bits, low byte first
 unfoldable pub number-word : ℕ → Word

@@ -18,14 +18,14 @@ use Rattle.rules.proofs.Plans.{cut-run, run-length}
 use Rattle.steps.specs.Picked.{wear-at, picked-steps}
 
 -- the part that the code lends is the page
-pub part-wear : (mark p : ℕ) (i : List ℕ) → renewed-wear (wear-in mark (words (take (p * 1024 + 1024 - p * 1024) (drop (p * 1024) i)))) ≡ wear-at mark p i
+pub part-wear : (edition p : ℕ) (i : List ℕ) → renewed-wear (wear-in edition (words (take (p * 1024 + 1024 - p * 1024) (drop (p * 1024) i)))) ≡ wear-at edition p i
 unfolding wear-at bytes-at
-part-wear mark p i = let e : p * 1024 + 1024 - p * 1024 ≡ 1024 = omega arith in ap (λ (n : ℕ). renewed-wear (wear-in mark (words (take n (drop (p * 1024) i))))) e
+part-wear edition p i = let e : p * 1024 + 1024 - p * 1024 ≡ 1024 = omega arith in ap (λ (n : ℕ). renewed-wear (wear-in edition (words (take n (drop (p * 1024) i))))) e
 
 -- a page that is as it was gets the wear that it would have got
-pub same-wear : (mark p : ℕ) (i j : List ℕ) → drop (p * 1024) j ≡ drop (p * 1024) i → wear-at mark p j ≡ wear-at mark p i
+pub same-wear : (edition p : ℕ) (i j : List ℕ) → drop (p * 1024) j ≡ drop (p * 1024) i → wear-at edition p j ≡ wear-at edition p i
 unfolding wear-at bytes-at
-same-wear mark p i j e = ap (λ (l : List ℕ). renewed-wear (wear-in mark (words (take 1024 l)))) e
+same-wear edition p i j e = ap (λ (l : List ℕ). renewed-wear (wear-in edition (words (take 1024 l)))) e
 
 -- ---- what lies behind a page stays as the page is renewed
 
@@ -47,9 +47,9 @@ behind-erase p i = drop-sets-below (p * 1024 + 1024) i (p * 1024) (replicate 102
     near : (o : ℕ) (bs : List ℕ) → length bs ≡ 1024 → o + length bs ≤ o + 1024
     near o bs e = omega arith
 
-pub renew-behind : (mark p wear n : ℕ) (i : List ℕ) → drop (p * 1024 + 1024) (run 1024 (take n (renew mark p wear)) i) ≡ drop (p * 1024 + 1024) i
+pub renew-behind : (edition p wear n : ℕ) (i : List ℕ) → drop (p * 1024 + 1024) (run 1024 (take n (renew edition p wear)) i) ≡ drop (p * 1024 + 1024) i
 unfolding renew run word-steps
-renew-behind mark p wear n i = steps n (wear-word mark wear)
+renew-behind edition p wear n i = steps n (wear-word edition wear)
   where
     none : (n : ℕ) (j : List ℕ) → run 1024 (take n []) j ≡ j
     none zero j = refl
@@ -66,111 +66,111 @@ renew-behind mark p wear n i = steps n (wear-word mark wear)
 
 -- ---- one page after the other
 
-pub renewals-append : (mark : ℕ) (picks : ℕ → State → Bool) (k : ℕ) (xs ys : List Page) → renewals mark picks k (xs ++ ys) ≡ renewals mark picks k xs ++ renewals mark picks (k + length xs) ys
+pub renewals-append : (edition : ℕ) (picks : ℕ → State → Bool) (k : ℕ) (xs ys : List Page) → renewals edition picks k (xs ++ ys) ≡ renewals edition picks k xs ++ renewals edition picks (k + length xs) ys
 unfolding renewals add-steps
-renewals-append mark picks k [] ys = let e : k ≡ k + 0 = omega arith in ap (λ (x : ℕ). renewals mark picks x ys) e
-renewals-append mark picks k (p ∷ xs) ys =
+renewals-append edition picks k [] ys = let e : k ≡ k + 0 = omega arith in ap (λ (x : ℕ). renewals edition picks x ys) e
+renewals-append edition picks k (p ∷ xs) ys =
     let e : suc k + length xs ≡ k + suc (length xs) = omega arith in
-    let rest = renewals-append mark picks (suc k) xs ys ∙ ap (λ (x : ℕ). renewals mark picks (suc k) xs ++ renewals mark picks x ys) e in
+    let rest = renewals-append edition picks (suc k) xs ys ∙ ap (λ (x : ℕ). renewals edition picks (suc k) xs ++ renewals edition picks x ys) e in
     by-cases (picks k (p .state))
-    (λ t. rw t (ap (λ (ss : List Step). renew mark k (renewed-wear (p .wear)) ++ ss) rest ∙ sym (append-assoc (renew mark k (renewed-wear (p .wear))) (renewals mark picks (suc k) xs) (renewals mark picks (k + suc (length xs)) ys))))
+    (λ t. rw t (ap (λ (ss : List Step). renew edition k (renewed-wear (p .wear)) ++ ss) rest ∙ sym (append-assoc (renew edition k (renewed-wear (p .wear))) (renewals edition picks (suc k) xs) (renewals edition picks (k + suc (length xs)) ys))))
     (λ t. rw t rest)
 
-module _ (mark n : ℕ) (picks : List Bool) (i : List ℕ) where
+module _ (edition n : ℕ) (picks : List Bool) (i : List ℕ) where
   abbrev told : List Page
-  told = map (page mark) (cut 1024 n i)
+  told = map (page edition) (cut 1024 n i)
 
   abbrev chosen : ℕ → State → Bool
   chosen k s = getD picks k false
 
   -- the steps for the first j pages
   unfoldable pub upto : ℕ → List Step
-  upto j = renewals mark chosen 0 (take j told)
+  upto j = renewals edition chosen 0 (take j told)
 
-  told-at : (j : ℕ) → j < n → getD told j (page mark []) ≡ page mark (words (bytes-at (j * 1024) 1024 i))
-  told-at j l = List·getD-map (page mark) (cut 1024 n i) j [] ∙ ap (page mark) (cut-page 1024 n j i l)
+  told-at : (j : ℕ) → j < n → getD told j (page edition []) ≡ page edition (words (bytes-at (j * 1024) 1024 i))
+  told-at j l = List·getD-map (page edition) (cut 1024 n i) j [] ∙ ap (page edition) (cut-page 1024 n j i l)
 
-  upto-next : (j : ℕ) → j < n → upto (suc j) ≡ upto j ++ renewals mark chosen j (page mark (words (bytes-at (j * 1024) 1024 i)) ∷ [])
+  upto-next : (j : ℕ) → j < n → upto (suc j) ≡ upto j ++ renewals edition chosen j (page edition (words (bytes-at (j * 1024) 1024 i)) ∷ [])
   unfolding upto
   upto-next j l =
-      let long : length told ≡ n = length-map (cut 1024 n i) (page mark) ∙ cut-length 1024 n i in
+      let long : length told ≡ n = length-map (cut 1024 n i) (page edition) ∙ cut-length 1024 n i in
       let in-told : j < length told = omega arith in
       let front : length (take j told) ≡ j = length-take-le j told (omega arith) in
       let e : 0 + length (take j told) ≡ j = omega arith in
-      ap (renewals mark chosen 0) (take-suc told j (page mark []) in-told ∙ ap (λ (p : Page). take j told ++ (p ∷ [])) (told-at j l))
-      ∙ renewals-append mark chosen 0 (take j told) (page mark (words (bytes-at (j * 1024) 1024 i)) ∷ [])
-      ∙ ap (λ (x : ℕ). renewals mark chosen 0 (take j told) ++ renewals mark chosen x (page mark (words (bytes-at (j * 1024) 1024 i)) ∷ [])) e
+      ap (renewals edition chosen 0) (take-suc told j (page edition []) in-told ∙ ap (λ (p : Page). take j told ++ (p ∷ [])) (told-at j l))
+      ∙ renewals-append edition chosen 0 (take j told) (page edition (words (bytes-at (j * 1024) 1024 i)) ∷ [])
+      ∙ ap (λ (x : ℕ). renewals edition chosen 0 (take j told) ++ renewals edition chosen x (page edition (words (bytes-at (j * 1024) 1024 i)) ∷ [])) e
 
   pub upto-none : upto 0 ≡ []
   unfolding upto renewals
   upto-none = refl
 
-  pub upto-all : upto n ≡ picked-steps mark n picks i
+  pub upto-all : upto n ≡ picked-steps edition n picks i
   unfolding upto picked-steps
-  upto-all = let long : length told ≡ n = length-map (cut 1024 n i) (page mark) ∙ cut-length 1024 n i in ap (renewals mark chosen 0) (take-all n told (omega arith))
+  upto-all = let long : length told ≡ n = length-map (cut 1024 n i) (page edition) ∙ cut-length 1024 n i in ap (renewals edition chosen 0) (take-all n told (omega arith))
 
-  pub upto-picked : (j : ℕ) → j < n → getD picks j false ≡ true → upto (j + 1) ≡ upto j ++ renew mark j (wear-at mark j i)
+  pub upto-picked : (j : ℕ) → j < n → getD picks j false ≡ true → upto (j + 1) ≡ upto j ++ renew edition j (wear-at edition j i)
   unfolding renewals add-steps page wear-at
-  upto-picked j l t = rw add-one (upto-next j l ∙ ap (λ (ss : List Step). upto j ++ ss) (rw t (append-nil (renew mark j (renewed-wear (wear-in mark (words (bytes-at (j * 1024) 1024 i))))))))
+  upto-picked j l t = rw add-one (upto-next j l ∙ ap (λ (ss : List Step). upto j ++ ss) (rw t (append-nil (renew edition j (renewed-wear (wear-in edition (words (bytes-at (j * 1024) 1024 i))))))))
 
   pub upto-passed : (j : ℕ) → j < n → getD picks j false ≡ false → upto (j + 1) ≡ upto j
   unfolding renewals add-steps
   upto-passed j l t = rw add-one (upto-next j l ∙ ap (λ (ss : List Step). upto j ++ ss) (rw t) ∙ append-nil (upto j))
 
-renew-length : (mark p wear : ℕ) → length (renew mark p wear) ≡ 3
+renew-length : (edition p wear : ℕ) → length (renew edition p wear) ≡ 3
 unfolding renew word-steps
-renew-length mark p wear = three (wear-word mark wear)
+renew-length edition p wear = three (wear-word edition wear)
   where
     three : (w : Word) → length (erase p ∷ word-steps p 0 w) ≡ 3
     three (word a b c d) = refl
 
 -- what holds when the loop has passed j pages
-pub record Passed (mark n left : ℕ) (picks : List Bool) (i : List ℕ) (j : ℕ) (image : List ℕ) (rest : ℕ) : Type 0 where
+pub record Passed (edition n left : ℕ) (picks : List Bool) (i : List ℕ) (j : ℕ) (image : List ℕ) (rest : ℕ) : Type 0 where
   pub long : length image ≡ length i
-  pub is-left : rest ≡ left - length (upto mark n picks i j)
-  pub is-image : image ≡ run 1024 (take left (upto mark n picks i j)) i
+  pub is-left : rest ≡ left - length (upto edition n picks i j)
+  pub is-image : image ≡ run 1024 (take left (upto edition n picks i j)) i
   pub behind : drop (j * 1024) image ≡ drop (j * 1024) i
 
-module _ (mark n left : ℕ) (picks : List Bool) (i : List ℕ) where
-  pub passed-none : Passed mark n left picks i 0 i left
+module _ (edition n left : ℕ) (picks : List Bool) (i : List ℕ) where
+  pub passed-none : Passed edition n left picks i 0 i left
   unfolding run
   passed-none =
-      let e = upto-none mark n picks i in
+      let e = upto-none edition n picks i in
       record { long = refl; is-left = rw e (omega arith); is-image = rw e (none left); behind = refl }
     where
       none : (m : ℕ) → i ≡ run 1024 (take m []) i
       none zero = refl
       none (suc m) = refl
 
-  module _ (j : ℕ) (image : List ℕ) (rest : ℕ) (h : Passed mark n left picks i j image rest) (in-range : j < n) where
+  module _ (j : ℕ) (image : List ℕ) (rest : ℕ) (h : Passed edition n left picks i j image rest) (in-range : j < n) where
     further : (l : List ℕ) → drop (j * 1024 + 1024) l ≡ drop ((j + 1) * 1024) l
     further l = let e : j * 1024 + 1024 ≡ (j + 1) * 1024 = omega arith in ap (λ (x : ℕ). drop x l) e
 
     behind-next : drop (j * 1024 + 1024) image ≡ drop (j * 1024 + 1024) i
     behind-next = sym (drop-drop 1024 (j * 1024) image) ∙ ap (drop 1024) (h .behind) ∙ drop-drop 1024 (j * 1024) i
 
-    pub passed-by : getD picks j false ≡ false → Passed mark n left picks i (j + 1) image rest
+    pub passed-by : getD picks j false ≡ false → Passed edition n left picks i (j + 1) image rest
     passed-by t =
-        let e = upto-passed mark n picks i j in-range t in
+        let e = upto-passed edition n picks i j in-range t in
         record { long = h .long; is-left = rw e (h .is-left); is-image = rw e (h .is-image); behind = sym (further image) ∙ behind-next ∙ further i }
 
-    pub passed-picked : (image′ : List ℕ) (rest′ : ℕ) → getD picks j false ≡ true → length image′ ≡ length image → rest′ ≡ rest - 3 → image′ ≡ run 1024 (take rest (renew mark j (wear-at mark j image))) image → Passed mark n left picks i (j + 1) image′ rest′
+    pub passed-picked : (image′ : List ℕ) (rest′ : ℕ) → getD picks j false ≡ true → length image′ ≡ length image → rest′ ≡ rest - 3 → image′ ≡ run 1024 (take rest (renew edition j (wear-at edition j image))) image → Passed edition n left picks i (j + 1) image′ rest′
     passed-picked image′ rest′ t l r q =
-        let w = wear-at mark j i in
-        let e = upto-picked mark n picks i j in-range t in
-        let len = length-append (upto mark n picks i j) (renew mark j w) in
-        let three = renew-length mark j w in
-        let q′ : image′ ≡ run 1024 (take rest (renew mark j w)) image = q ∙ ap (λ (x : ℕ). run 1024 (take rest (renew mark j x)) image) (same-wear mark j i image (h .behind)) in
+        let w = wear-at edition j i in
+        let e = upto-picked edition n picks i j in-range t in
+        let len = length-append (upto edition n picks i j) (renew edition j w) in
+        let three = renew-length edition j w in
+        let q′ : image′ ≡ run 1024 (take rest (renew edition j w)) image = q ∙ ap (λ (x : ℕ). run 1024 (take rest (renew edition j x)) image) (same-wear edition j i image (h .behind)) in
         let left-is = h .is-left in
         record {
           long = l ∙ h .long;
           is-left = rw e (omega arith);
-          is-image = rw e (q′ ∙ ap (λ (x : ℕ). run 1024 (take x (renew mark j w)) image) (h .is-left) ∙ ap (run 1024 (take (left - length (upto mark n picks i j)) (renew mark j w))) (h .is-image)
-              ∙ sym (cut-run 1024 left (upto mark n picks i j) (renew mark j w) i));
-          behind = sym (further image′) ∙ ap (drop (j * 1024 + 1024)) q′ ∙ renew-behind mark j w rest image ∙ behind-next ∙ further i;
+          is-image = rw e (q′ ∙ ap (λ (x : ℕ). run 1024 (take x (renew edition j w)) image) (h .is-left) ∙ ap (run 1024 (take (left - length (upto edition n picks i j)) (renew edition j w))) (h .is-image)
+              ∙ sym (cut-run 1024 left (upto edition n picks i j) (renew edition j w) i));
+          behind = sym (further image′) ∙ ap (drop (j * 1024 + 1024)) q′ ∙ renew-behind edition j w rest image ∙ behind-next ∙ further i;
         }
 
-pub passed-all : (mark n left : ℕ) (picks : List Bool) (i : List ℕ) (j : ℕ) (image : List ℕ) (rest : ℕ) → Passed mark n left picks i j image rest → j ≡ n → (rest ≡ left - length (picked-steps mark n picks i)) × (image ≡ run 1024 (take left (picked-steps mark n picks i)) i)
-passed-all mark n left picks i j image rest h e =
-    let u : upto mark n picks i j ≡ picked-steps mark n picks i = ap (upto mark n picks i) e ∙ upto-all mark n picks i in
+pub passed-all : (edition n left : ℕ) (picks : List Bool) (i : List ℕ) (j : ℕ) (image : List ℕ) (rest : ℕ) → Passed edition n left picks i j image rest → j ≡ n → (rest ≡ left - length (picked-steps edition n picks i)) × (image ≡ run 1024 (take left (picked-steps edition n picks i)) i)
+passed-all edition n left picks i j image rest h e =
+    let u : upto edition n picks i j ≡ picked-steps edition n picks i = ap (upto edition n picks i) e ∙ upto-all edition n picks i in
     (h .is-left ∙ ap (λ (ss : List Step). left - length ss) u, h .is-image ∙ ap (λ (ss : List Step). run 1024 (take left ss) i) u)

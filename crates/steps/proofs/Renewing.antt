@@ -11,7 +11,7 @@ use Rattle.rules.specs.Word.{Word, word, wear-word, word-steps}
 use Rattle.rules.specs.Steps.{renew, renew-all}
 use Rattle.rules.proofs.Plans.{AllAllowed, allowed-take, erased-allowed, run-append}
 
-module _ (mark p wear : ℕ) (i j : List ℕ) (w : Word) (erased : j ≡ sets i (p * 1024) (replicate 1024 255)) (made : w ≡ wear-word mark wear) where
+module _ (edition p wear : ℕ) (i j : List ℕ) (w : Word) (erased : j ≡ sets i (p * 1024) (replicate 1024 255)) (made : w ≡ wear-word edition wear) where
   is-erased : j ≡ after 1024 (erase p) i
   unfolding after offset aim
   is-erased = erased
@@ -20,7 +20,7 @@ module _ (mark p wear : ℕ) (i j : List ℕ) (w : Word) (erased : j ≡ sets i 
   renewing-allowed n h =
       subst (AllAllowed 1024 (take n (word-steps p 0 w))) (sym is-erased) (allowed-take 1024 n (word-steps p 0 w) (after 1024 (erase p) i) (erased-allowed 1024 p i h 0 w (omega arith)))
 
-  pub renewing-done : (left : ℕ) (l : List ℕ) → (left ≡ 0 → ⊥) → l ≡ run 1024 (take (left - 1) (word-steps p 0 w)) j → l ≡ run 1024 (take left (renew mark p wear)) i
+  pub renewing-done : (left : ℕ) (l : List ℕ) → (left ≡ 0 → ⊥) → l ≡ run 1024 (take (left - 1) (word-steps p 0 w)) j → l ≡ run 1024 (take left (renew edition p wear)) i
   unfolding run renew
   renewing-done zero l n h = absurd (n refl)
   renewing-done (suc left) l n h =
@@ -30,21 +30,21 @@ module _ (mark p wear : ℕ) (i j : List ℕ) (w : Word) (erased : j ≡ sets i 
 
 -- ---- one page after the other
 
-pub renew-all-next : (mark k n : ℕ) → renew-all mark k (suc n) ≡ renew-all mark k n ++ renew mark (k + n) 1
+pub renew-all-next : (edition k n : ℕ) → renew-all edition k (suc n) ≡ renew-all edition k n ++ renew edition (k + n) 1
 unfolding renew-all
-renew-all-next mark k zero = let e : k ≡ k + 0 = omega arith in append-nil (renew mark k 1) ∙ ap (λ (x : ℕ). renew mark x 1) e
-renew-all-next mark k (suc n) =
+renew-all-next edition k zero = let e : k ≡ k + 0 = omega arith in append-nil (renew edition k 1) ∙ ap (λ (x : ℕ). renew edition x 1) e
+renew-all-next edition k (suc n) =
     let e : suc k + n ≡ k + suc n = omega arith in
-    ap (λ (ss : List Step). renew mark k 1 ++ ss) (renew-all-next mark (suc k) n ∙ ap (λ (x : ℕ). renew-all mark (suc k) n ++ renew mark x 1) e)
-    ∙ sym (append-assoc (renew mark k 1) (renew-all mark (suc k) n) (renew mark (k + suc n) 1))
+    ap (λ (ss : List Step). renew edition k 1 ++ ss) (renew-all-next edition (suc k) n ∙ ap (λ (x : ℕ). renew-all edition (suc k) n ++ renew edition x 1) e)
+    ∙ sym (append-assoc (renew edition k 1) (renew-all edition (suc k) n) (renew edition (k + suc n) 1))
 
-pub renew-all-more : (mark n : ℕ) (i j l : List ℕ) → j ≡ run 1024 (renew-all mark 0 n) i → l ≡ run 1024 (take 3 (renew mark n 1)) j → l ≡ run 1024 (renew-all mark 0 (n + 1)) i
+pub renew-all-more : (edition n : ℕ) (i j l : List ℕ) → j ≡ run 1024 (renew-all edition 0 n) i → l ≡ run 1024 (take 3 (renew edition n 1)) j → l ≡ run 1024 (renew-all edition 0 (n + 1)) i
 unfolding renew word-steps
-renew-all-more mark n i j l h g =
+renew-all-more edition n i j l h g =
     let e : 0 + n ≡ n = omega arith in
-    let s : renew-all mark 0 (n + 1) ≡ renew-all mark 0 n ++ renew mark n 1 = rw add-one (renew-all-next mark 0 n ∙ ap (λ (x : ℕ). renew-all mark 0 n ++ renew mark x 1) e) in
-    g ∙ ap (λ (ss : List Step). run 1024 ss j) (three-steps (wear-word mark 1)) ∙ ap (run 1024 (renew mark n 1)) h
-    ∙ sym (run-append 1024 (renew-all mark 0 n) (renew mark n 1) i) ∙ ap (λ (ss : List Step). run 1024 ss i) (sym s)
+    let s : renew-all edition 0 (n + 1) ≡ renew-all edition 0 n ++ renew edition n 1 = rw add-one (renew-all-next edition 0 n ∙ ap (λ (x : ℕ). renew-all edition 0 n ++ renew edition x 1) e) in
+    g ∙ ap (λ (ss : List Step). run 1024 ss j) (three-steps (wear-word edition 1)) ∙ ap (run 1024 (renew edition n 1)) h
+    ∙ sym (run-append 1024 (renew-all edition 0 n) (renew edition n 1) i) ∙ ap (λ (ss : List Step). run 1024 ss i) (sym s)
   where
     three-steps : (w : Word) → take 3 (erase n ∷ word-steps n 0 w) ≡ erase n ∷ word-steps n 0 w
     three-steps (word a b c d) = refl

@@ -10,8 +10,8 @@ use Rattle.rules.specs.Steps.{renewed-wear, renewals}
 use Rattle.rules.specs.Call.{cut}
 
 -- the wear that the page at an index is to get
-unfoldable pub wear-at : (mark page : ℕ) → List ℕ → ℕ
-wear-at mark p i = renewed-wear (wear-in mark (words (bytes-at (p * 1024) 1024 i)))
+unfoldable pub wear-at : (edition page : ℕ) → List ℕ → ℕ
+wear-at edition p i = renewed-wear (wear-in edition (words (bytes-at (p * 1024) 1024 i)))
 
-unfoldable pub picked-steps : (mark n : ℕ) → (picks : List Bool) → List ℕ → List Step
-picked-steps mark n picks i = renewals mark (λ k s. getD picks k false) 0 (map (page mark) (cut 1024 n i))
+unfoldable pub picked-steps : (edition n : ℕ) → (picks : List Bool) → List ℕ → List Step
+picked-steps edition n picks i = renewals edition (λ k s. getD picks k false) 0 (map (page edition) (cut 1024 n i))

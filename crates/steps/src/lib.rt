@@ -33,52 +33,52 @@ pub fn program_word(image: &mut [u8], page: usize, place: usize, w: Word, left: 
 }
 
 // Erases a page and programs its wear word.
-pub fn renew(image: &mut [u8], page: usize, mark: u8, wear: u16, left: u16) -> u16
+pub fn renew(image: &mut [u8], page: usize, edition: u8, wear: u16, left: u16) -> u16
     requires { ⌜ (page < 32) × (page * 1024 + 1024 ≤ length (now image)) ⌝ }
     ensures { λ r. ⌜ r ≡ left - 3 ⌝ }
-    ensures { λ r. ⌜ now (image .exit) ≡ run 1024 (take left (renew mark page wear)) (now (image .entry)) ⌝ }
+    ensures { λ r. ⌜ now (image .exit) ≡ run 1024 (take left (renew edition page wear)) (now (image .entry)) ⌝ }
 {
     if left == 0 {
         return 0;
     }
     flash::erase_at(image, page * 1024, 1024);
-    program_word(image, page, 0, words::wear_word(mark, wear), left - 1)
+    program_word(image, page, 0, words::wear_word(edition, wear), left - 1)
 }
 
 // Renews the first n pages with wear 1, in index order, all steps of each.
-pub fn renew_all(image: &mut [u8], mark: u8, n: usize)
+pub fn renew_all(image: &mut [u8], edition: u8, n: usize)
     requires { ⌜ (n ≤ 32) × (n * 1024 ≤ length (now image)) ⌝ }
-    ensures { λ r. ⌜ now (image .exit) ≡ run 1024 (renew-all mark 0 n) (now (image .entry)) ⌝ }
+    ensures { λ r. ⌜ now (image .exit) ≡ run 1024 (renew-all edition 0 n) (now (image .entry)) ⌝ }
 {
     let mut i = 0;
     while i < n {
-        renew(image, i, mark, 1, 3);
+        renew(image, i, edition, 1, 3);
         i += 1;
     }
 }
 
 // Renews a page "as recovery does": its new wear follows from its own.
-pub fn recycle(image: &mut [u8], page: usize, mark: u8, left: u16) -> u16
+pub fn recycle(image: &mut [u8], page: usize, edition: u8, left: u16) -> u16
     requires { ⌜ (page < 32) × (page * 1024 + 1024 ≤ length (now image)) ⌝ }
     ensures { λ r. ⌜ r ≡ left - 3 ⌝ }
-    ensures { λ r. ⌜ now (image .exit) ≡ run 1024 (take left (renew mark page (wear-at mark page (now (image .entry))))) (now (image .entry)) ⌝ }
+    ensures { λ r. ⌜ now (image .exit) ≡ run 1024 (take left (renew edition page (wear-at edition page (now (image .entry))))) (now (image .entry)) ⌝ }
 {
     let at = page * 1024;
-    let wear = pages::renewed_wear(&image[at..at + 1024], mark);
-    renew(image, page, mark, wear, left)
+    let wear = pages::renewed_wear(&image[at..at + 1024], edition);
+    renew(image, page, edition, wear, left)
 }
 
 // Recycles the picked pages among the first n, in index order.
-pub fn recycle_picked(image: &mut [u8], n: usize, picks: [bool; 32], mark: u8, left: u16) -> u16
+pub fn recycle_picked(image: &mut [u8], n: usize, picks: [bool; 32], edition: u8, left: u16) -> u16
     requires { ⌜ (n ≤ 32) × (n * 1024 ≤ length (now image)) ⌝ }
-    ensures { λ r. ⌜ r ≡ left - length (picked-steps mark n picks (now (image .entry))) ⌝ }
-    ensures { λ r. ⌜ now (image .exit) ≡ run 1024 (take left (picked-steps mark n picks (now (image .entry)))) (now (image .entry)) ⌝ }
+    ensures { λ r. ⌜ r ≡ left - length (picked-steps edition n picks (now (image .entry))) ⌝ }
+    ensures { λ r. ⌜ now (image .exit) ≡ run 1024 (take left (picked-steps edition n picks (now (image .entry)))) (now (image .entry)) ⌝ }
 {
     let mut rest = left;
     let mut i = 0;
     while i < n {
         if picks[i] {
-            rest = recycle(image, i, mark, rest);
+            rest = recycle(image, i, edition, rest);
         }
         i += 1;
     }

@@ -10,7 +10,7 @@ use Rattle.rules.specs.Flash.{bytes-at}
 use Rattle.rules.specs.Word.{words}
 use Rattle.rules.specs.Page.{Page, page, slots}
 use Rattle.rules.specs.Store.{Setting, records, all-records, put-all, states, base, used-pages, oldest-first, journal, settings}
-use Rattle.rules.specs.Call.{page-size, page-mark, page-count, cut, pages}
+use Rattle.rules.specs.Call.{page-size, page-edition, page-count, cut, pages}
 use Rattle.rules.proofs.Cut.{cut-length, cut-page}
 use Rattle.rules.proofs.Stores.{all-records-append}
 use Rattle.rules.proofs.Settings.{Rising, settings-rising, put-all-append}
@@ -79,10 +79,10 @@ all-below m (x ∷ ks) h = (h 0 (omega arith), all-below m ks (λ k l. h (suc k)
 one-page : (i : List ℕ) (k : ℕ) → k < length (pages i) → all-records (take 1 (drop k (pages i))) ≡ records (slots (words (bytes-at (k * 1024) 1024 i)))
 unfolding at-places all-records pages page
 one-page i k l =
-    let in-cut : k < page-count i = (let e = length-map (cut page-size (page-count i) i) (page page-mark) in let n = cut-length page-size (page-count i) i in omega arith) in
-    let here : take 1 (drop k (pages i)) ≡ getD (pages i) k (page page-mark []) ∷ [] = sym (append-nil (take 1 (drop k (pages i)))) ∙ at-place (pages i) k (page page-mark []) l in
-    ap all-records here ∙ append-nil (records (getD (pages i) k (page page-mark []) .slots))
-    ∙ ap (λ (p : Page). records (p .slots)) (List·getD-map (page page-mark) (cut page-size (page-count i) i) k [] ∙ ap (page page-mark) (cut-page page-size (page-count i) k i in-cut))
+    let in-cut : k < page-count i = (let e = length-map (cut page-size (page-count i) i) (page page-edition) in let n = cut-length page-size (page-count i) i in omega arith) in
+    let here : take 1 (drop k (pages i)) ≡ getD (pages i) k (page page-edition []) ∷ [] = sym (append-nil (take 1 (drop k (pages i)))) ∙ at-place (pages i) k (page page-edition []) l in
+    ap all-records here ∙ append-nil (records (getD (pages i) k (page page-edition []) .slots))
+    ∙ ap (λ (p : Page). records (p .slots)) (List·getD-map (page page-edition) (cut page-size (page-count i) i) k [] ∙ ap (page page-edition) (cut-page page-size (page-count i) k i in-cut))
 
 gathered-pages : (i : List ℕ) (ks : List ℕ) → AllBelow (length (pages i)) ks → all-records (at-places (pages i) ks) ≡ gathered i ks
 unfolding AllBelow gathered at-places all-records

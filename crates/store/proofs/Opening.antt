@@ -9,7 +9,7 @@ use lib.Dec.{ltb}
 use borrow.Author.Tests.{lt-ltb, le-ltb, ltb-true, ltb-false}
 use Rattle.rules.specs.Page.{page}
 use Rattle.rules.specs.Store.{states, base, used, count, settings, held, put-all}
-use Rattle.rules.specs.Call.{page-size, page-mark, page-count, cut, pages, wrong-size, held-limit}
+use Rattle.rules.specs.Call.{page-size, page-edition, page-count, cut, pages, wrong-size, held-limit}
 use Rattle.rules.proofs.Truth.{by-cases}
 use Rattle.rules.proofs.Cut.{cut-length}
 use Rattle.rules.proofs.Stores.{length-states, count-all}
@@ -26,7 +26,7 @@ use Rattle.store.proofs.Gathering.{gathered-settings}
 
 pub pages-long : (i : List ℕ) → length (pages i) ≡ page-count i
 unfolding pages
-pages-long i = length-map (cut page-size (page-count i) i) (page page-mark) ∙ cut-length page-size (page-count i) i
+pages-long i = length-map (cut page-size (page-count i) i) (page page-edition) ∙ cut-length page-size (page-count i) i
 
 module _ (i : List ℕ) (look : Look) (h : Looks i look) (ok : look .number ≡ 0) where
   sized : wrong-size i ≡ false

@@ -4,4 +4,4 @@ pub mod Places
 pub mod Kept
 pub mod Coded
 pub mod Choosing
-pub mod Marks
+pub mod Picks

@@ -9,7 +9,7 @@ use lib.ListN.{length, take, getD, replicate}
 use lib.Dec.{eqb}
 use Rattle.rules.specs.Page.{State, cleared, open₁, open₂, receiving, bad, page}
 use Rattle.rules.specs.Store.{states, order, Candidate, nobody, page as candidate, better, index}
-use Rattle.rules.specs.Call.{page-size, page-mark, page-count, wrong-size, cut}
+use Rattle.rules.specs.Call.{page-size, page-edition, page-count, wrong-size, cut}
 use Rattle.ranks.specs.Ranks.{padded}
 use Rattle.survey.specs.declared.Candidate.{Candidate as Choice}
 
@@ -22,7 +22,7 @@ pub record Counted (i : List ℕ) (r : ℕ) : Type 0 where
 
 -- the states of the first n pages of an image
 unfoldable pub first-states : (n : ℕ) → List ℕ → List State
-first-states n i = states (map (page page-mark) (cut page-size n i))
+first-states n i = states (map (page page-edition) (cut page-size n i))
 
 -- the states, with bad in the places that are left of 32
 unfoldable pub filled : List State → List State
@@ -66,13 +66,13 @@ least k (s ∷ ss) = better (offer k s) (least (suc k) ss)
 unfoldable pub chosen : List ℕ → Candidate
 chosen xs = least 0 (take 32 xs)
 
--- A mark for each of the first n pages, by a test of its index, and none for the places that are left of 32.
+-- Which of the first n pages a test of the index picks; the places that are left of 32 are not picked.
 unfoldable pub tested : (ℕ → Bool) → (n : ℕ) → List Bool
 tested f zero = []
 tested f (suc n) = tested f n ++ (f n ∷ [])
 
-unfoldable pub marked : (ℕ → Bool) → (n : ℕ) → List Bool
-marked f n = tested f n ++ replicate (32 - n) false
+unfoldable pub picked : (ℕ → Bool) → (n : ℕ) → List Bool
+picked f n = tested f n ++ replicate (32 - n) false
 
 -- "neither used nor cleared", by the rank and the spare
 unfoldable pub neither : (rank spare : ℕ) → Bool

@@ -106,10 +106,10 @@ pub fn record_word(address: u16, value: u8) -> Word
     checked((address % 256) as u8, (address / 256) as u8, value)
 }
 
-pub fn wear_word(mark: u8, wear: u16) -> Word
-    ensures { λ r. ⌜ as-word r ≡ wear-word mark wear ⌝ }
+pub fn wear_word(edition: u8, wear: u16) -> Word
+    ensures { λ r. ⌜ as-word r ≡ wear-word edition wear ⌝ }
 {
-    checked((wear % 256) as u8, (wear / 256) as u8, mark)
+    checked((wear % 256) as u8, (wear / 256) as u8, edition)
 }
 
 pub fn number_word(n: u32) -> Word

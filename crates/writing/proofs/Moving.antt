@@ -22,8 +22,8 @@ use Rattle.rules.proofs.Shape.{Within, target, page-after, store-after}
 use Rattle.rules.proofs.Cut.{cut-after, cut-length, length-after}
 use Rattle.rules.proofs.Plans.{AllAllowed, run-append, run-length, cut-run}
 use Rattle.rules.proofs.Settings.{Rising, but-cases, but-none, but-length, above-none, last-of-rest, none-some}
-use Rattle.survey.specs.Survey.{marked, other}
-use Rattle.survey.proofs.Marks.{other-mark}
+use Rattle.survey.specs.Survey.{picked, other}
+use Rattle.survey.proofs.Picks.{other-pick}
 use Rattle.settings.specs.Held.{Holds, addresses-of, values-of}
 use Rattle.settings.proofs.Tables.{setting-at}
 use Rattle.steps.specs.Picked.{picked-steps}
@@ -69,28 +69,28 @@ on-filling p o cs l = on-append p (word-steps p 1 (opening-word 2 o)) (copy-step
 
 -- ---- and do not change how the other pages are renewed
 
-renewals-set : (mark : ℕ) (picks : ℕ → State → Bool) (k p : ℕ) (x : List Word) (F : List (List Word)) → ((s : State) → picks (k + p) s ≡ false) → renewals mark picks k (map (page mark) (set F p x)) ≡ renewals mark picks k (map (page mark) F)
+renewals-set : (edition : ℕ) (picks : ℕ → State → Bool) (k p : ℕ) (x : List Word) (F : List (List Word)) → ((s : State) → picks (k + p) s ≡ false) → renewals edition picks k (map (page edition) (set F p x)) ≡ renewals edition picks k (map (page edition) F)
 unfolding renewals add-steps
-renewals-set mark picks k p x [] h = refl
-renewals-set mark picks k zero x (y ∷ F) h =
+renewals-set edition picks k p x [] h = refl
+renewals-set edition picks k zero x (y ∷ F) h =
     let e : k + 0 ≡ k = omega arith in
     let g : (s : State) → picks k s ≡ false = λ s. subst (λ (m : ℕ). picks m s ≡ false) e (h s) in
-    rw (g (page mark x .state), g (page mark y .state))
-renewals-set mark picks k (suc p) x (y ∷ F) h =
+    rw (g (page edition x .state), g (page edition y .state))
+renewals-set edition picks k (suc p) x (y ∷ F) h =
     let e : k + suc p ≡ suc k + p = omega arith in
-    ap (add-steps (picks k (page mark y .state)) (renew mark k (renewed-wear (page mark y .wear)))) (renewals-set mark picks (suc k) p x F (λ s. subst (λ (m : ℕ). picks m s ≡ false) e (h s)))
+    ap (add-steps (picks k (page edition y .state)) (renew edition k (renewed-wear (page edition y .wear)))) (renewals-set edition picks (suc k) p x F (λ s. subst (λ (m : ℕ). picks m s ≡ false) e (h s)))
 
-module _ (mark n p : ℕ) (inside : p < n) where
+module _ (edition n p : ℕ) (inside : p < n) where
   abbrev others : List ℕ → List Step
-  others i = renewals mark (λ k s. not (eqb k p)) 0 (map (page mark) (cut 1024 n i))
+  others i = renewals edition (λ k s. not (eqb k p)) 0 (map (page edition) (cut 1024 n i))
 
   program-kept : (q w : ℕ) (g : Half) (low high : ℕ) (i : List ℕ) → q ≡ p → w < 256 → length i ≡ n * 1024 → others (after 1024 (program q w g low high) i) ≡ others i
   unfolding Within store-after target
   program-kept q w g low high i e v l =
       let s = program q w g low high in
       let z : 0 + q ≡ p = omega (arith, e) in
-      ap (λ (F : List (List Word)). renewals mark (λ k s. not (eqb k p)) 0 (map (page mark) F)) (cut-after 256 n s i l (subst (λ (m : ℕ). m < n) (sym e) inside, v))
-      ∙ renewals-set mark (λ k s. not (eqb k p)) 0 q (page-after 256 s (getD (cut 1024 n i) q [])) (cut 1024 n i) (λ t. ap not (eq-eqb (0 + q) p z))
+      ap (λ (F : List (List Word)). renewals edition (λ k s. not (eqb k p)) 0 (map (page edition) F)) (cut-after 256 n s i l (subst (λ (m : ℕ). m < n) (sym e) inside, v))
+      ∙ renewals-set edition (λ k s. not (eqb k p)) 0 q (page-after 256 s (getD (cut 1024 n i) q [])) (cut 1024 n i) (λ t. ap not (eq-eqb (0 + q) p z))
 
   pub others-kept : (ss : List Step) (i : List ℕ) → OnPage p ss → length i ≡ n * 1024 → others (run 1024 ss i) ≡ others i
   unfolding OnPage run
@@ -102,38 +102,38 @@ module _ (mark n p : ℕ) (inside : p < n) where
 
 -- ---- the renewals of the pages but one
 
-pub picked-others : (n p : ℕ) (i : List ℕ) → picked-steps 1 n (marked (other p) n) i ≡ renewals 1 (λ k s. not (eqb k p)) 0 (map (page 1) (cut 1024 n i))
+pub picked-others : (n p : ℕ) (i : List ℕ) → picked-steps 1 n (picked (other p) n) i ≡ renewals 1 (λ k s. not (eqb k p)) 0 (map (page 1) (cut 1024 n i))
 unfolding picked-steps
 picked-others n p i =
-    renewals-agree 1 (λ k s. getD (marked (other p) n) k false) (λ k s. not (eqb k p)) 0 (map (page 1) (cut 1024 n i))
+    renewals-agree 1 (λ k s. getD (picked (other p) n) k false) (λ k s. not (eqb k p)) 0 (map (page 1) (cut 1024 n i))
     (λ j g.
     let z : 0 + j ≡ j = omega arith in
     let l = length-map (cut 1024 n i) (page 1) in
     let m = cut-length 1024 n i in
-    subst (λ (x : ℕ). getD (marked (other p) n) x false ≡ not (eqb x p)) (sym z) (other-mark p n j (omega arith)))
+    subst (λ (x : ℕ). getD (picked (other p) n) x false ≡ not (eqb x p)) (sym z) (other-pick p n j (omega arith)))
 
 -- three steps for each page that is picked
-renewals-all : (mark p k : ℕ) (ps : List Page) → p < k → length (renewals mark (λ j s. not (eqb j p)) k ps) ≡ 3 * length ps
+renewals-all : (edition p k : ℕ) (ps : List Page) → p < k → length (renewals edition (λ j s. not (eqb j p)) k ps) ≡ 3 * length ps
 unfolding renewals add-steps
-renewals-all mark p k [] h = refl
-renewals-all mark p k (x ∷ ps) h =
-    let rest = renewals-all mark p (suc k) ps (omega arith) in
+renewals-all edition p k [] h = refl
+renewals-all edition p k (x ∷ ps) h =
+    let rest = renewals-all edition p (suc k) ps (omega arith) in
     let ne : eqb k p ≡ false = ne-eqb k p (λ e. omega arith) in
-    let three = renew-long mark k (renewed-wear (x .wear)) in
-    let l = length-append (renew mark k (renewed-wear (x .wear))) (renewals mark (λ j s. not (eqb j p)) (suc k) ps) in
+    let three = renew-long edition k (renewed-wear (x .wear)) in
+    let l = length-append (renew edition k (renewed-wear (x .wear))) (renewals edition (λ j s. not (eqb j p)) (suc k) ps) in
     rw ne (omega arith)
 
-pub renewals-others : (mark p k : ℕ) (ps : List Page) → k ≤ p → p < k + length ps → length (renewals mark (λ j s. not (eqb j p)) k ps) + 3 ≡ 3 * length ps
+pub renewals-others : (edition p k : ℕ) (ps : List Page) → k ≤ p → p < k + length ps → length (renewals edition (λ j s. not (eqb j p)) k ps) + 3 ≡ 3 * length ps
 unfolding renewals add-steps
-renewals-others mark p k [] h g = absurd (omega arith)
-renewals-others mark p k (x ∷ ps) h g =
+renewals-others edition p k [] h g = absurd (omega arith)
+renewals-others edition p k (x ∷ ps) h g =
     by-cases (eqb k p)
-    (λ t. let e = eqb-true k p t in let all = renewals-all mark p (suc k) ps (omega arith) in rw t (omega arith))
+    (λ t. let e = eqb-true k p t in let all = renewals-all edition p (suc k) ps (omega arith) in rw t (omega arith))
     (λ t.
     let ne = eqb-false k p t in
-    let rest = renewals-others mark p (suc k) ps (omega arith) (omega arith) in
-    let three = renew-long mark k (renewed-wear (x .wear)) in
-    let l = length-append (renew mark k (renewed-wear (x .wear))) (renewals mark (λ j s. not (eqb j p)) (suc k) ps) in
+    let rest = renewals-others edition p (suc k) ps (omega arith) (omega arith) in
+    let three = renew-long edition k (renewed-wear (x .wear)) in
+    let l = length-append (renew edition k (renewed-wear (x .wear))) (renewals edition (λ j s. not (eqb j p)) (suc k) ps) in
     rw t (omega arith))
 
 pub copies-long : (p k : ℕ) (cs : List Setting) → length (copy-steps p k cs) ≡ 2 * length cs
@@ -160,7 +160,7 @@ moving-long p o n cs i h =
     let two = word-steps-length p 2 (done-word o) in
     let fill = filling-plan p o cs in
     let done = word-steps p 2 (done-word o) in
-    let picked = picked-steps 1 n (marked (other p) n) i in
+    let picked = picked-steps 1 n (picked (other p) n) i in
     let e = ap length (picked-others n p i) in
     let m = length-map (cut 1024 n i) (page 1) in
     let c = cut-length 1024 n i in
@@ -182,10 +182,10 @@ moved p o n allowance left cs i j k inside sized few lefts filled finished =
     let ss = take allowance (fill ++ done) in
     let y : x ≡ run 1024 ss i = both-done allowance left fill done i j lefts filled x refl in
     let on : OnPage p ss = on-take p allowance (fill ++ done) (on-append p fill done (on-filling p o cs few) (on-word p 2 (done-word o) (omega arith))) in
-    let same : picked-steps 1 n (marked (other p) n) x ≡ picked-steps 1 n (marked (other p) n) i =
+    let same : picked-steps 1 n (picked (other p) n) x ≡ picked-steps 1 n (picked (other p) n) i =
     picked-others n p x ∙ ap (λ (m : List ℕ). renewals 1 (λ k s. not (eqb k p)) 0 (map (page 1) (cut 1024 n m))) y ∙ others-kept 1 n p inside ss i on sized ∙ sym (picked-others n p i) in
     let less : left - 2 ≡ allowance - length (fill ++ done) = (let l = length-append fill done in let two = word-steps-length p 2 (done-word o) in omega arith) in
-    both-done allowance (left - 2) (fill ++ done) (picked-steps 1 n (marked (other p) n) i) i x less y k
+    both-done allowance (left - 2) (fill ++ done) (picked-steps 1 n (picked (other p) n) i) i x less y k
     (finished ∙ ap (λ (zs : List Step). run 1024 (take (left - 2) zs) x) same)
 
 -- ---- how many records are copied

@@ -11,7 +11,7 @@ use Rattle.rules.specs.Word.{Word, opening-word, done-word, record-word, word-s
 use Rattle.rules.specs.Store.{Setting}
 use Rattle.rules.specs.Steps.{copy-steps}
 use Rattle.rules.proofs.Plans.{AllAllowed, allowed-cut, cut-run}
-use Rattle.survey.specs.Survey.{marked, other}
+use Rattle.survey.specs.Survey.{picked, other}
 use Rattle.steps.specs.Picked.{picked-steps}
 use Rattle.steps.proofs.Copies.{word-steps-length}
 use Rattle.writing.specs.declared.Stepped.{Stepped}
@@ -96,7 +96,7 @@ module _ (p o : ℕ) (cs : List Setting) (n : ℕ) (i : List ℕ) where
 
 -- ---- the done word and the renewals
 
-pub finished : (p o n left rest : ℕ) (i j k : List ℕ) (picks : List Bool) → rest ≡ left - 2 → picks ≡ marked (other p) n → j ≡ run 1024 (take left (word-steps p 2 (done-word o))) i → k ≡ run 1024 (take rest (picked-steps 1 n picks j)) j → k ≡ finished-image p o n left i
+pub finished : (p o n left rest : ℕ) (i j k : List ℕ) (picks : List Bool) → rest ≡ left - 2 → picks ≡ picked (other p) n → j ≡ run 1024 (take left (word-steps p 2 (done-word o))) i → k ≡ run 1024 (take rest (picked-steps 1 n picks j)) j → k ≡ finished-image p o n left i
 unfolding finished-image
 finished p o n left rest i j k picks r m e g =
     g ∙ rw (r, m, e)

@@ -12,15 +12,15 @@ use Rattle.rules.specs.Word.{Word, word, wear-word, word-steps}
 use Rattle.rules.specs.Page.{State, cleared, open₁, open₂, receiving, bad, Page, page}
 use Rattle.rules.specs.Store.{states, base, used, is-cleared, count}
 use Rattle.rules.specs.Steps.{renew, renewed-wear, add-steps, renewals, unclean, recovery-steps}
-use Rattle.rules.specs.Call.{page-size, page-mark, page-count, pages, cut, wrong-size, store-number, stepped, recover, Stepped, OK}
+use Rattle.rules.specs.Call.{page-size, page-edition, page-count, pages, cut, wrong-size, store-number, stepped, recover, Stepped, OK}
 use Rattle.rules.proofs.Truth.{by-cases}
 use Rattle.rules.proofs.Stores.{length-states, count-all}
 use Rattle.rules.proofs.Ready.{size-right, right-sizes}
 use Rattle.rules.proofs.Answers.{stepped-refused, stepped-done}
 use Rattle.ranks.specs.Ranks.{ranks}
 use Rattle.ranks.specs.Places.{taken-places}
-use Rattle.survey.specs.Survey.{spare, spares, marked, neither-at}
-use Rattle.survey.proofs.Marks.{count-spares, unclean-mark}
+use Rattle.survey.specs.Survey.{spare, spares, picked, neither-at}
+use Rattle.survey.proofs.Picks.{count-spares, unclean-pick}
 use Rattle.steps.specs.Picked.{picked-steps}
 use Rattle.store.specs.declared.Look.{Look}
 use Rattle.store.specs.Look.{Looks}
@@ -29,31 +29,31 @@ use Rattle.store.proofs.Opening.{pages-long}
 -- ---- renewals, by which pages are picked
 
 -- two tests that agree on the pages there are pick the same
-pub renewals-agree : (mark : ℕ) (p q : ℕ → State → Bool) (k : ℕ) (ps : List Page) → ((j : ℕ) → j < length ps → p (k + j) (getD (states ps) j bad) ≡ q (k + j) (getD (states ps) j bad)) → renewals mark p k ps ≡ renewals mark q k ps
+pub renewals-agree : (edition : ℕ) (p q : ℕ → State → Bool) (k : ℕ) (ps : List Page) → ((j : ℕ) → j < length ps → p (k + j) (getD (states ps) j bad) ≡ q (k + j) (getD (states ps) j bad)) → renewals edition p k ps ≡ renewals edition q k ps
 unfolding renewals add-steps states
-renewals-agree mark p q k [] h = refl
-renewals-agree mark p q k (x ∷ ps) h =
+renewals-agree edition p q k [] h = refl
+renewals-agree edition p q k (x ∷ ps) h =
     let here : p k (x .state) ≡ q k (x .state) = (let e : k + 0 ≡ k = omega arith in subst (λ (m : ℕ). p m (x .state) ≡ q m (x .state)) e (h 0 (omega arith))) in
-    let rest = renewals-agree mark p q (suc k) ps (λ j l. let e : k + suc j ≡ suc k + j = omega arith in subst (λ (m : ℕ). p m (getD (states ps) j bad) ≡ q m (getD (states ps) j bad)) e (h (suc j) (omega arith))) in
+    let rest = renewals-agree edition p q (suc k) ps (λ j l. let e : k + suc j ≡ suc k + j = omega arith in subst (λ (m : ℕ). p m (getD (states ps) j bad) ≡ q m (getD (states ps) j bad)) e (h (suc j) (omega arith))) in
     rw (here, rest)
 
-pub renew-long : (mark p wear : ℕ) → length (renew mark p wear) ≡ 3
+pub renew-long : (edition p wear : ℕ) → length (renew edition p wear) ≡ 3
 unfolding renew word-steps
-renew-long mark p wear = three (wear-word mark wear)
+renew-long edition p wear = three (wear-word edition wear)
   where
     three : (w : Word) → suc (length (word-steps p 0 w)) ≡ 3
     three (word a b c d) = refl
 
 -- three steps for each
-pub renewals-length : (mark : ℕ) (test : State → Bool) (k : ℕ) (ps : List Page) → length (renewals mark (λ j s. test s) k ps) ≡ 3 * count test (states ps)
+pub renewals-length : (edition : ℕ) (test : State → Bool) (k : ℕ) (ps : List Page) → length (renewals edition (λ j s. test s) k ps) ≡ 3 * count test (states ps)
 unfolding renewals add-steps states count
-renewals-length mark test k [] = refl
-renewals-length mark test k (x ∷ ps) =
-    let rest = renewals-length mark test (suc k) ps in
+renewals-length edition test k [] = refl
+renewals-length edition test k (x ∷ ps) =
+    let rest = renewals-length edition test (suc k) ps in
     by-cases (test (x .state))
     (λ t.
-    let three = renew-long mark k (renewed-wear (x .wear)) in
-    let l = length-append (renew mark k (renewed-wear (x .wear))) (renewals mark (λ j s. test s) (suc k) ps) in
+    let three = renew-long edition k (renewed-wear (x .wear)) in
+    let l = length-append (renew edition k (renewed-wear (x .wear))) (renewals edition (λ j s. test s) (suc k) ps) in
     rw t (omega arith))
     (λ t. rw t (omega arith))
 
@@ -92,20 +92,20 @@ module _ (i : List ℕ) (look : Look) (h : Looks i look) (ok : store-number i �
       let n = look-count in
       omega arith
 
-  pub recovery-is : (picks : List Bool) → picks ≡ marked (neither-at (look .ranks) (look .spares)) (look .count) → picked-steps 1 (look .count) picks i ≡ recovery-steps 1 (pages i)
+  pub recovery-is : (picks : List Bool) → picks ≡ picked (neither-at (look .ranks) (look .spares)) (look .count) → picked-steps 1 (look .count) picks i ≡ recovery-steps 1 (pages i)
   unfolding picked-steps recovery-steps pages
   recovery-is picks e =
       let b = base (states (pages i)) in
       let n = look-count in
       let l = states-long in
       let p = pages-long i in
-      let mark : (k : ℕ) → k < page-count i → getD picks k false ≡ unclean b (getD (states (pages i)) k bad) =
-      λ k g. ap (λ (xs : List Bool). getD xs k false) (e ∙ ap (λ (rs : List ℕ). marked (neither-at rs (look .spares)) (look .count)) (h .ranks sized) ∙ ap (λ (qs : List ℕ). marked (neither-at (ranks b (states (pages i))) qs) (look .count)) (h .spares sized))
-      ∙ unclean-mark b (states (pages i)) (look .count) k (omega arith) in
+      let edition : (k : ℕ) → k < page-count i → getD picks k false ≡ unclean b (getD (states (pages i)) k bad) =
+      λ k g. ap (λ (xs : List Bool). getD xs k false) (e ∙ ap (λ (rs : List ℕ). picked (neither-at rs (look .spares)) (look .count)) (h .ranks sized) ∙ ap (λ (qs : List ℕ). picked (neither-at (ranks b (states (pages i))) qs) (look .count)) (h .spares sized))
+      ∙ unclean-pick b (states (pages i)) (look .count) k (omega arith) in
       ap (λ (m : ℕ). renewals 1 (λ k s. getD picks k false) 0 (map (page 1) (cut 1024 m i))) n
-      ∙ renewals-agree 1 (λ k s. getD picks k false) (λ k s. unclean b s) 0 (pages i) (λ j g. let z : 0 + j ≡ j = omega arith in subst (λ (m : ℕ). getD picks m false ≡ unclean b (getD (states (pages i)) j bad)) (sym z) (mark j (omega arith)))
+      ∙ renewals-agree 1 (λ k s. getD picks k false) (λ k s. unclean b s) 0 (pages i) (λ j g. let z : 0 + j ≡ j = omega arith in subst (λ (m : ℕ). getD picks m false ≡ unclean b (getD (states (pages i)) j bad)) (sym z) (edition j (omega arith)))
 
-  pub recovered : (total allowance : ℕ) (image : List ℕ) (picks : List Bool) → picks ≡ marked (neither-at (look .ranks) (look .spares)) (look .count)
+  pub recovered : (total allowance : ℕ) (image : List ℕ) (picks : List Bool) → picks ≡ picked (neither-at (look .ranks) (look .spares)) (look .count)
       → total ≡ 3 * count (unclean (base (states (pages i)))) (states (pages i))
       → image ≡ run 1024 (take allowance (picked-steps 1 (look .count) picks i)) i
       → recover allowance i ≡ record { number = 0; steps = min allowance total; finished = leb total allowance; image = image }
@@ -118,4 +118,4 @@ module _ (i : List ℕ) (look : Look) (h : Looks i look) (ok : store-number i �
 
 pub not-recovered : (i : List ℕ) (allowance : ℕ) → (store-number i ≡ 0 → ⊥) → recover allowance i ≡ record { number = store-number i; steps = 0; finished = false; image = i }
 unfolding recover
-not-recovered i allowance h = stepped-refused (store-number i) allowance (recovery-steps page-mark (pages i)) i h
+not-recovered i allowance h = stepped-refused (store-number i) allowance (recovery-steps page-edition (pages i)) i h

@@ -13,14 +13,14 @@ use Rattle.rules.specs.Word.{opening-word, done-word, record-word, word-steps}
 use Rattle.rules.specs.Page.{slot-place}
 use Rattle.rules.specs.Store.{Setting, setting, states, is-cleared, active-order, active-index, active-slots, count, settings, held, value, free-slot}
 use Rattle.rules.specs.Steps.{but, copies, copy-steps, append-steps, open-steps, move-steps, write-steps, taken, has-free-slot, is-value}
-use Rattle.rules.specs.Call.{page-size, page-mark, page-count, pages, store-number, write-number, is-unclean, is-held, no-room, wrong-address, then, write}
+use Rattle.rules.specs.Call.{page-size, page-edition, page-count, pages, store-number, write-number, is-unclean, is-held, no-room, wrong-address, then, write}
 use Rattle.rules.proofs.Truth.{by-cases, failed}
 use Rattle.rules.proofs.Plans.{AllAllowed, allowed-take}
 use Rattle.rules.proofs.Settings.{by-option, but-length, but-length-held}
 use Rattle.rules.proofs.Held.{held-rising, held-few, value-is}
 use Rattle.rules.proofs.Ready.{size-right, right-sizes, append-allowed, open-allowed, move-allowed, taken-within}
 use Rattle.rules.proofs.Answers.{stepped-refused, stepped-done}
-use Rattle.survey.specs.Survey.{marked, other}
+use Rattle.survey.specs.Survey.{picked, other}
 use Rattle.steps.specs.Picked.{picked-steps}
 use Rattle.steps.specs.Copied.{copied}
 use Rattle.steps.proofs.Copies.{word-steps-length}
@@ -61,7 +61,7 @@ module _ (a v : ℕ) (i : List ℕ) (ok : write-number a v i ≡ 0) where
 -- the image has the steps that the way names, and they may be done
 module _ (a v : ℕ) (i : List ℕ) where
   abbrev Accepted : List Step → Type 0
-  Accepted ss = (write-number a v i ≡ 0) × (write-steps page-mark a v (pages i) ≡ ss)
+  Accepted ss = (write-number a v i ≡ 0) × (write-steps page-edition a v (pages i) ≡ ss)
 
   unfoldable pub Means : Way → Type 0
   Means (Refuse n) = (write-number a v i ≡ n) × (n ≡ 0 → ⊥)
@@ -81,7 +81,7 @@ module _ (a v : ℕ) (i : List ℕ) where
   unfolding open-steps opening-plan
   open-is = refl
 
-  move-is : move-steps page-mark a v (pages i) ≡ moving-plan (taken (pages i)) (active-order (states (pages i)) + 1) (page-count i) (copies a v (pages i)) i
+  move-is : move-steps page-edition a v (pages i) ≡ moving-plan (taken (pages i)) (active-order (states (pages i)) + 1) (page-count i) (copies a v (pages i)) i
   unfolding move-steps moving-plan filling-plan pages
   move-is = ap (λ (ss : List Step). word-steps (taken (pages i)) 1 (opening-word 2 (active-order (states (pages i)) + 1)) ++ copy-steps (taken (pages i)) 0 (copies a v (pages i)) ++ word-steps (taken (pages i)) 2 (done-word (active-order (states (pages i)) + 1)) ++ ss) (sym (picked-others (page-count i) (taken (pages i)) i))
 
@@ -124,14 +124,14 @@ module _ (a v : ℕ) (i : List ℕ) where
 
 -- ---- the answer
 
-pub written : (a v n : ℕ) (i j : List ℕ) (ss : List Step) (r : Stepped) → write-number a v i ≡ 0 → write-steps page-mark a v (pages i) ≡ ss → Does n ss i r j → as-stepped r j ≡ write a v n i
+pub written : (a v n : ℕ) (i j : List ℕ) (ss : List Step) (r : Stepped) → write-number a v i ≡ 0 → write-steps page-edition a v (pages i) ≡ ss → Does n ss i r j → as-stepped r j ≡ write a v n i
 unfolding write
 written a v n i j ss r ok e d =
-    rw (d .number, d .steps, d .finished, d .image) (sym (stepped-done (write-number a v i) n (write-steps page-mark a v (pages i)) i ok ∙ rw (e, length-take n ss)))
+    rw (d .number, d .steps, d .finished, d .image) (sym (stepped-done (write-number a v i) n (write-steps page-edition a v (pages i)) i ok ∙ rw (e, length-take n ss)))
 
 pub not-written : (a v n number : ℕ) (i : List ℕ) → write-number a v i ≡ number → (number ≡ 0 → ⊥) → write a v n i ≡ record { number = number; steps = 0; finished = false; image = i }
 unfolding write
-not-written a v n number i e ne = rw e (stepped-refused number n (write-steps page-mark a v (pages i)) i ne)
+not-written a v n number i e ne = rw e (stepped-refused number n (write-steps page-edition a v (pages i)) i ne)
 
 -- ---- each way, as the call takes it
 
@@ -235,7 +235,7 @@ copies-few a v i ok s =
     (λ u e. omega (arith, but-length-held a u (settings (pages i)) (value-is i a ∙ e)))
 
 -- 388 steps and 3 for each page but one, as 01 has it
-pub longest-write : (a v : ℕ) (i : List ℕ) → write-number a v i ≡ 0 → length (write-steps page-mark a v (pages i)) ≤ 388 + 3 * (page-count i - 1)
+pub longest-write : (a v : ℕ) (i : List ℕ) → write-number a v i ≡ 0 → length (write-steps page-edition a v (pages i)) ≤ 388 + 3 * (page-count i - 1)
 unfolding write-steps append-steps
 longest-write a v i ok =
     by-cases (is-value (value a (pages i)) v) (λ s. rw s (omega arith))

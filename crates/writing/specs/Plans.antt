@@ -11,7 +11,7 @@ use Rattle.rules.specs.Steps.{copy-steps}
 use Rattle.rules.proofs.Settings.{Rising}
 use Rattle.settings.specs.Held.{Holds}
 use Rattle.settings.specs.declared.Settings.{Settings}
-use Rattle.survey.specs.Survey.{marked, other}
+use Rattle.survey.specs.Survey.{picked, other}
 use Rattle.steps.specs.Picked.{picked-steps}
 use Rattle.writing.specs.declared.Stepped.{Stepped}
 
@@ -30,7 +30,7 @@ filling-plan p o cs = word-steps p 1 (opening-word 2 o) ++ copy-steps p 0 cs
 
 -- the whole of a move: the page is filled, its done word is programmed, every other page is renewed
 unfoldable pub moving-plan : (page order n : ℕ) → List Setting → List ℕ → List Step
-moving-plan p o n cs i = filling-plan p o cs ++ word-steps p 2 (done-word o) ++ picked-steps 1 n (marked (other p) n) i
+moving-plan p o n cs i = filling-plan p o cs ++ word-steps p 2 (done-word o) ++ picked-steps 1 n (picked (other p) n) i
 
 -- arrays that hold a table of settings, addresses rising
 pub record Tabled (s : Settings) : Type 0 where
@@ -43,4 +43,4 @@ pub record Tabled (s : Settings) : Type 0 where
 unfoldable pub finished-image : (page order n left : ℕ) → List ℕ → List ℕ
 finished-image p o n left i =
     let j = run 1024 (take left (word-steps p 2 (done-word o))) i in
-    run 1024 (take (left - 2) (picked-steps 1 n (marked (other p) n) j)) j
+    run 1024 (take (left - 2) (picked-steps 1 n (picked (other p) n) j)) j

@@ -16,7 +16,7 @@ ghost use Rattle.rules.proofs.Plans.{AllAllowed};
 ghost use Rattle.rules.specs.Steps.{but};
 ghost use Rattle.steps.specs.Copied.{rows, copied};
 ghost use Rattle.ranks.specs.Places.{taken-places};
-ghost use Rattle.survey.specs.Survey.{marked, neither-at};
+ghost use Rattle.survey.specs.Survey.{picked, neither-at};
 ghost use Rattle.steps.specs.Picked.{picked-steps};
 ghost use Rattle.rules.specs.Call.{format, recover, write};
 ghost use Rattle.writing.specs.Answers.{as-stepped};
@@ -84,7 +84,7 @@ fn unclean_count(look: Look) -> u16
 // Renews them, in index order.
 fn renew_unclean(image: &mut [u8], look: Look, allowance: u16)
     requires { ⌜ (look .count ≤ 32) × (look .count * 1024 ≤ length (now image)) ⌝ }
-    ensures { λ _. ⌜ now (image .exit) ≡ run 1024 (take allowance (picked-steps 1 (look .count) (marked (neither-at (look .ranks) (look .spares)) (look .count)) (now (image .entry)))) (now (image .entry)) ⌝ }
+    ensures { λ _. ⌜ now (image .exit) ≡ run 1024 (take allowance (picked-steps 1 (look .count) (picked (neither-at (look .ranks) (look .spares)) (look .count)) (now (image .entry)))) (now (image .entry)) ⌝ }
 {
     let n = look.count;
     let ranks = look.ranks;

@@ -51,7 +51,7 @@ returns c =
     let a = c .before .before .before .before .before .before .before .before .args in
     let r = c .before .before .renew in
     let w = c .before .before .before .before .renewed-wear in
-    (r .ensures .0, r .ensures .1 ∙ ap (λ (x : ℕ). run 1024 (take (a .left) (renew (a .mark) (a .page) x)) (now (a .image))) (w .ensures ∙ part-wear (a .mark) (a .page) (now (a .image))))
+    (r .ensures .0, r .ensures .1 ∙ ap (λ (x : ℕ). run 1024 (take (a .left) (renew (a .edition) (a .page) x)) (now (a .image))) (w .ensures ∙ part-wear (a .edition) (a .page) (now (a .image))))
 
 pub recycle-spec : {M : Type 1} → statement M
 recycle-spec =

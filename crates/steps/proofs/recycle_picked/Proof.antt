@@ -12,16 +12,16 @@ use Rattle.steps.proofs.recycle_picked.Lts as lts
 use Rattle.steps.proofs.recycle.Reads as recycle-reads
 
 abbrev Inv-loop : tie.InvT-loop
-Inv-loop image₀ n mark left picks rest₀ i₀ image rest i = (i ≤ n) × (rest ≤ left) × Passed mark n left picks image₀ i image rest
+Inv-loop image₀ n edition left picks rest₀ i₀ image rest i = (i ≤ n) × (rest ≤ left) × Passed edition n left picks image₀ i image rest
 
 abbrev μ-loop : tie.MeasureT-loop
-μ-loop image₀ n mark left picks rest₀ i₀ image rest i = n - i
+μ-loop image₀ n edition left picks rest₀ i₀ image rest i = n - i
 
 -- src/lib.rt:77:5
 loop-holds : tie.Need-loop-holds Inv-loop μ-loop
 loop-holds c =
     let a = c .before .args in
-    (omega arith, omega arith, passed-none (a .mark) (a .n) (a .left) (a .t3) (now (a .image)))
+    (omega arith, omega arith, passed-none (a .edition) (a .n) (a .left) (a .t3) (now (a .image)))
 
 -- src/lib.rt:78:12
 array-read-if1 : tie.Need-array-read-if1 Inv-loop μ-loop
@@ -51,11 +51,11 @@ loop-again c =
     (λ w.
     let r = w .2 in
     let e : c .if1 .rest ≡ l .rest - 3 = w .6 ∙ r .ensures .0 in
-    (omega arith, omega arith, passed-picked (a .mark) (a .n) (a .left) (a .t3) (now (a .image)) (l .i) (l .image) (l .rest) (l .inv .2) (omega arith) (c .if1 .image) (c .if1 .rest) (w .0 .taken) (ap length (w .5) ∙ r .kept .0) e (w .5 ∙ r .ensures .1)))
+    (omega arith, omega arith, passed-picked (a .edition) (a .n) (a .left) (a .t3) (now (a .image)) (l .i) (l .image) (l .rest) (l .inv .2) (omega arith) (c .if1 .image) (c .if1 .rest) (w .0 .taken) (ap length (w .5) ∙ r .kept .0) e (w .5 ∙ r .ensures .1)))
     (λ w.
     let e : c .if1 .rest ≡ l .rest = w .2 in
     let f : c .if1 .image ≡ l .image = w .1 in
-    (omega arith, omega arith, rw (e, f) (passed-by (a .mark) (a .n) (a .left) (a .t3) (now (a .image)) (l .i) (l .image) (l .rest) (l .inv .2) (omega arith) (w .0 .left))))
+    (omega arith, omega arith, rw (e, f) (passed-by (a .edition) (a .n) (a .left) (a .t3) (now (a .image)) (l .i) (l .image) (l .rest) (l .inv .2) (omega arith) (w .0 .left))))
     (c .if1 .came)
 
 -- src/lib.rt:70:1
@@ -67,7 +67,7 @@ returns : tie.Need-returns Inv-loop μ-loop
 returns c =
     let a = c .before .before .before .args in
     let l = c .before .loop in
-    passed-all (a .mark) (a .n) (a .left) (a .t3) (now (a .image)) (l .i) (l .image) (l .rest) (l .inv .2) (omega arith)
+    passed-all (a .edition) (a .n) (a .left) (a .t3) (now (a .image)) (l .i) (l .image) (l .rest) (l .inv .2) (omega arith)
 
 pub recycle-picked-spec : {M : Type 1} → statement M
 recycle-picked-spec =

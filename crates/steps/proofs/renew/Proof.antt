@@ -43,7 +43,7 @@ program-word-requires c κs =
     let s = c .before .before .before .before .before .before .before .before in
     let a = s .args in
     let e = c .before .before .before .before .erase-at in
-    ((search needs, omega arith), renewing-allowed (a .mark) (a .page) (a .wear) (now (a .image)) (e .last .0) (as-word (c .wear-word .result)) (e .ensures) (c .wear-word .ensures) (a .left - 1) (s .pre .1))
+    ((search needs, omega arith), renewing-allowed (a .edition) (a .page) (a .wear) (now (a .image)) (e .last .0) (as-word (c .wear-word .result)) (e .ensures) (c .wear-word .ensures) (a .left - 1) (s .pre .1))
 
 -- src/lib.rt:34:1
 same-length : tie.Need-same-length
@@ -58,7 +58,7 @@ returns-2 c =
     let w = c .before .before .before .wear-word in
     let p = c .before .before .program-word in
     let r : p .result ≡ a .left - 1 - 2 = p .ensures .0 in
-    (omega arith, renewing-done (a .mark) (a .page) (a .wear) (now (a .image)) (e .last .0) (as-word (w .result)) (e .ensures) (w .ensures) (a .left) (p .last .0) (search needs) (p .ensures .1))
+    (omega arith, renewing-done (a .edition) (a .page) (a .wear) (now (a .image)) (e .last .0) (as-word (w .result)) (e .ensures) (w .ensures) (a .left) (p .last .0) (search needs) (p .ensures .1))
 
 pub renew-spec : {M : Type 1} → statement M
 renew-spec =

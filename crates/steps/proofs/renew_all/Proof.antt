@@ -13,10 +13,10 @@ use Rattle.steps.proofs.renew_all.Lts as lts
 use Rattle.steps.proofs.renew.Reads as renew-reads
 
 abbrev Inv-loop : tie.InvT-loop
-Inv-loop image₀ mark n i₀ image i = (i ≤ n) × (length image ≡ length image₀) × (image ≡ run 1024 (renew-all mark 0 i) image₀)
+Inv-loop image₀ edition n i₀ image i = (i ≤ n) × (length image ≡ length image₀) × (image ≡ run 1024 (renew-all edition 0 i) image₀)
 
 abbrev μ-loop : tie.MeasureT-loop
-μ-loop image₀ mark n i₀ image i = n - i
+μ-loop image₀ edition n i₀ image i = n - i
 
 -- src/lib.rt:52:5
 loop-holds : tie.Need-loop-holds Inv-loop μ-loop
@@ -41,7 +41,7 @@ loop-again c =
     let a = c .before .before .before .before .before .before .before .args in
     let l = c .before .before .before .before .before .loop in
     let r = c .before .before .renew in
-    (omega arith, r .kept .0 ∙ l .inv .1, renew-all-more (a .mark) (l .i) (now (a .image)) (l .image) (r .last .0) (l .inv .2) (r .ensures .1))
+    (omega arith, r .kept .0 ∙ l .inv .1, renew-all-more (a .edition) (l .i) (now (a .image)) (l .image) (r .last .0) (l .inv .2) (r .ensures .1))
 
 -- src/lib.rt:47:1
 same-length : tie.Need-same-length Inv-loop μ-loop
@@ -51,7 +51,7 @@ same-length c = c .before .loop .inv .1
 returns : tie.Need-returns Inv-loop μ-loop
 returns c =
     let e : c .before .loop .i ≡ c .before .before .before .args .n = omega arith in
-    c .before .loop .inv .2 ∙ ap (λ (x : ℕ). run 1024 (renew-all (c .before .before .before .args .mark) 0 x) (now (c .before .before .before .args .image))) e
+    c .before .loop .inv .2 ∙ ap (λ (x : ℕ). run 1024 (renew-all (c .before .before .before .args .edition) 0 x) (now (c .before .before .before .args .image))) e
 
 pub renew-all-spec : {M : Type 1} → statement M
 renew-all-spec =
