@@ -10,18 +10,17 @@ use lib.Dec.{eqb, leb, ltb}
 use borrow.Author.Tests.{eqb-true, eqb-false, eq-eqb, ne-eqb, lt-ltb, le-ltb, ltb-true, ltb-false, le-leb, lt-leb}
 use Rattle.rules.specs.Flash.{bytes-at}
 use Rattle.rules.specs.Word.{words}
-use Rattle.rules.specs.Page.{State, cleared, open₁, open₂, receiving, bad, slots}
-use Rattle.rules.specs.Store.{states, base, used, is-cleared, used-orders, active-order, active-index, active-slots, slots-at, count, index, value, last-of, journal, held, settings, free-slot}
+use Rattle.rules.specs.Page.{State, slots}
+use Rattle.rules.specs.Store.{states, base, used, is-cleared, active-order, active-index, active-slots, slots-at, count, index, value, held, settings, free-slot}
 use Rattle.rules.specs.Steps.{unclean, taken, has-free-slot, is-value}
-use Rattle.rules.specs.Call.{page-count, pages, wrong-size, store-number, write-number, is-unclean, is-held, no-room, order-end, damaged, repeats, all-used, held-limit, order-limit}
-use Rattle.rules.proofs.Truth.{by-cases, or-false-right}
-use Rattle.rules.proofs.Settings.{Rising, settings-rising, last-of-settings}
+use Rattle.rules.specs.Call.{page-count, pages, wrong-size, store-number, write-number, is-unclean, is-held, no-room, order-end, held-limit, order-limit}
+use Rattle.rules.proofs.Truth.{by-cases}
 use Rattle.rules.proofs.Stores.{length-states, orders-used, count-all}
-use Rattle.rules.proofs.Ready.{right-sizes, size-right, undamaged, ordered, active-within, taken-within}
+use Rattle.rules.proofs.Ready.{right-sizes, size-right, ordered, active-within, taken-within}
 use Rattle.rules.proofs.Answers.{write-end, write-ok}
 use Rattle.ranks.specs.Places.{taken-places, newest}
 use Rattle.ranks.proofs.Meaning.{under-at, length-ranks}
-use Rattle.survey.specs.Survey.{spare, spares, chosen}
+use Rattle.survey.specs.Survey.{spares, chosen}
 use Rattle.survey.proofs.Picks.{count-spares}
 use Rattle.survey.proofs.Choosing.{taken-looked}
 use Rattle.store.specs.declared.Look.{Look}

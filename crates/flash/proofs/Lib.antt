@@ -1,4 +1,3 @@
 -- Laws for the callers that lend a part of an image.
 pub mod Lent
 pub mod Runs
-pub mod Steps

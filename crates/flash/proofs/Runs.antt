@@ -8,9 +8,6 @@ use lib.ListN.{length, take, drop, set}
 use lib.Seq.{sets, take-set-le, drop-set-lt}
 
 module _ {A : Type 0} where
-  pub take-sets : (n o : ℕ) (xs vs : List A) → n ≤ o → take n (sets xs o vs) ≡ take n xs
-  take-sets n o xs [] h = refl
-  take-sets n o xs (v ∷ vs) h = take-sets n (suc o) (set xs o v) vs (omega arith) ∙ take-set-le n xs o v h
 
   pub drop-sets : (n o : ℕ) (xs vs : List A) → o + length vs ≤ n → drop n (sets xs o vs) ≡ drop n xs
   drop-sets n o xs [] h = refl

@@ -10,8 +10,8 @@ use lib.Seq.{take-all}
 use lib.Dec.{eqb, leb}
 use borrow.Author.Tests.{eqb-true, eqb-false, leb-true}
 use Rattle.rules.specs.Flash.{Step, after, run}
-use Rattle.rules.specs.Call.{page-size, page-edition, page-count, pages, wrong-size, store-number, write-number, read-number, blank-read-number, OK, SIZE, NO-STORE, DAMAGED, UNCLEAN, Stepped, Reading, Pairing, Formatted, format, stepped, recover, write, read, blank-read, lookup}
-use Rattle.rules.specs.Steps.{format-steps, recovery-steps, write-steps}
+use Rattle.rules.specs.Call.{page-size, page-edition, pages, wrong-size, store-number, write-number, read-number, blank-read-number, OK, SIZE, NO-STORE, DAMAGED, UNCLEAN, Stepped, Reading, Pairing, Formatted, stepped, recover, write, read, blank-read}
+use Rattle.rules.specs.Steps.{recovery-steps, write-steps}
 use Rattle.rules.proofs.Truth.{by-cases}
 use Rattle.rules.proofs.Answers.{not-accepted, format-refused, format-done, stepped-refused, stepped-done, lookup-refused, lookup-done}
 use Rattle.promise.specs.Promise as Rules
@@ -23,7 +23,7 @@ use Rattle.reading.specs.Answers.{as-reading, as-pairing}
 use Rattle.writing.specs.declared.Stepped.{Stepped as Answer}
 use Rattle.writing.specs.Answers.{as-stepped}
 use Rattle.writing.proofs.Ways.{longest-write}
-use Rattle.istrovell.specs.Demands.{Formats, Recovers, Writes, Reads, BlankReads, LooksUp, Unchanged, AnswersByNumber, OneOutcome, RecoveryCut, WriteCut, Touched, formatted, recovered, written, FollowsTheRules, Recoveries, none, more, Interrupted, Gives, KeepsItsWord, Mends, every-call-answers-by-number, only-one-outcome, every-step-follows-the-rules, a-store-keeps-its-word, recovery-mends-a-store}
+use Rattle.istrovell.specs.Demands.{Formats, Recovers, Reads, BlankReads, LooksUp, Unchanged, RecoveryCut, WriteCut, Touched, formatted, recovered, written, Recoveries, none, more, Interrupted, Gives, every-call-answers-by-number, only-one-outcome, every-step-follows-the-rules, a-store-keeps-its-word, recovery-mends-a-store}
 
 -- ---- recovery and write: an answer with steps
 

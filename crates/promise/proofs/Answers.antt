@@ -8,15 +8,14 @@ use native.Mathlib.Omega.{arith}
 use lib.ListN.{length, length-map}
 use lib.Dec.{eqb, leb, ltb}
 use borrow.Author.Tests.{eq-eqb, ne-eqb, le-ltb, eqb-true, leb-true, leb-false, not-false}
-use Rattle.rules.specs.Page.{State, cleared, open₁, open₂, receiving, bad, Page, page}
+use Rattle.rules.specs.Page.{page}
 use Rattle.rules.specs.Store.{states, base, used, is-open, used-orders, Setting, last-of, settings, held, value, put-all, count}
 use Rattle.rules.specs.Steps.{unclean, is-value}
 use Rattle.rules.specs.Call.{page-size, page-edition, page-count, pages, cut, wrong-size, no-store, repeats, all-used, damaged, is-unclean, wrong-address, is-held, no-room, order-end, then, store-number, write-number, blank-read-number, read-number, Reading, accepted, or-value, read, OK, UNCLEAN, ADDRESS, NO-ROOM, ORDER-END, NOT-HELD, held-limit}
-use Rattle.rules.proofs.Truth.{failed, by-cases, is-false, not-both}
-use Rattle.rules.proofs.Stores.{length-states, count-open, orders-used, count-used, count-all}
+use Rattle.rules.proofs.Truth.{failed}
+use Rattle.rules.proofs.Stores.{length-states, count-open, orders-used, count-used}
 use Rattle.rules.proofs.Phases.{Pages}
 use Rattle.rules.proofs.Told.{told}
-use Rattle.promise.proofs.Keeps.{Keeps}
 use Rattle.promise.proofs.Good.{Good, journal-is}
 use Rattle.promise.proofs.Write.{Accepted}
 

@@ -6,16 +6,16 @@ use mathlib.Core.Bool.{Bool, true, false}
 use mathlib.Core.List.{List, [], _∷_, _++_, map, append-nil, append-assoc}
 use native.Mathlib.Omega.{arith}
 use lib.ListN.{length, length-append}
-use Rattle.rules.specs.Word.{Word, sound, record-word, word-steps}
+use Rattle.rules.specs.Word.{Word, record-word, word-steps}
 use Rattle.rules.specs.Page.{blank-word, State, Page, page, state, slots, all-blank, slot-place}
-use Rattle.rules.specs.Store.{states, base, order, order₂, used, is-open, used-pages, oldest-first, Setting, setting, records, all-records}
+use Rattle.rules.specs.Store.{states, base, order, order₂, used, used-pages, oldest-first, Setting, setting, records, all-records}
 use Rattle.rules.proofs.Words.{Light, sound-light, record-sound, blank-not-sound}
 use Rattle.rules.proofs.Pages.{AllLight, open-by-header}
 use Rattle.rules.proofs.Slots.{records-append, no-record, blank-records, made-record}
 use Rattle.rules.proofs.Stores.{Below, orders, orders-append, base-amid, used-amid, used-open, journal-amid}
 use Rattle.rules.proofs.Phases.{Pages, Turns, Partial, word-turns}
 use Rattle.rules.proofs.Told.{told, told-amid}
-use Rattle.promise.proofs.Keeps.{Whole, AllWhole, Keeps, whole-amid, amid-whole, same-count}
+use Rattle.promise.proofs.Keeps.{Whole, Keeps, whole-amid, amid-whole, same-count}
 
 -- a page that is used and newer than every other used one
 pub record Newest (edition b : ℕ) (f : Pages) (pg : List Word) (r : Pages) : Type 0 where

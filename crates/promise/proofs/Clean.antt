@@ -4,15 +4,13 @@ use mathlib.Core.Path.{_≡_, refl, sym, ap, _∙_, subst}
 use mathlib.Core.Bool.{Bool, true, false, cond, not, _||_}
 use mathlib.Core.List.{List, [], _∷_, _++_}
 use native.Mathlib.Omega.{arith}
-use Rattle.rules.specs.Word.{Word}
-use Rattle.rules.specs.Page.{State, cleared, Page, page, state, wear-in}
+use Rattle.rules.specs.Page.{cleared, page, state, wear-in}
 use Rattle.rules.specs.Store.{states, base, used, is-cleared, Setting, count}
 use Rattle.rules.specs.Steps.{unclean, renewed-wear, recovery-steps}
 use Rattle.rules.proofs.Truth.{by-cases, or-second}
 use Rattle.rules.proofs.Pages.{fresh-cleared}
 use Rattle.rules.proofs.Phases.{Pages, store-run, through-end}
 use Rattle.rules.proofs.Told.{told}
-use Rattle.promise.proofs.Keeps.{Keeps}
 use Rattle.rules.proofs.Renewing.{fresh, renewed, renewals-run}
 use Rattle.promise.proofs.Renewals.{renewals-through}
 use Rattle.promise.proofs.Good.{Good, idle-unclean}

@@ -6,19 +6,16 @@ use mathlib.Core.List.{List, [], _∷_, _++_, map, append-nil}
 use native.Mathlib.Omega.{arith}
 use lib.ListN.{length, length-append, replicate, length-replicate}
 use lib.Seq.{append-snoc}
-use Rattle.rules.specs.Flash.{Step, erase}
-use Rattle.rules.specs.Word.{Word, wear-word, opening-word, word-steps}
-use Rattle.rules.specs.Page.{blank-word, State, open₁, cleared, Page, page, state, slots, opening-place}
+use Rattle.rules.specs.Word.{wear-word, opening-word}
+use Rattle.rules.specs.Page.{blank-word, open₁, cleared, Page, page, state, slots}
 use Rattle.rules.specs.Store.{states, base, order, order₂, used, used-pages, add-page, oldest-first, insert, records, all-records, put-all}
-use Rattle.rules.specs.Steps.{renew, renew-all, format-steps}
 use Rattle.rules.specs.Call.{among, repeats}
-use Rattle.rules.proofs.Words.{Light, wear-sound, opening-sound, sound-light}
+use Rattle.rules.proofs.Words.{wear-sound, opening-sound, sound-light}
 use Rattle.rules.proofs.Pages.{AllLight, replicate-light, replicate-all-blank, fresh-cleared, wear-is-wear, opened-plain}
 use Rattle.rules.proofs.Slots.{blank-records}
 use Rattle.rules.proofs.Stores.{orders, NoneUsed, none-used-pages}
-use Rattle.rules.proofs.Phases.{Pages, Through, Fits, end, step, store-run, store-run-append, through-append, here-fits, word-through, word-run}
 use Rattle.rules.proofs.Told.{told}
-use Rattle.promise.proofs.Keeps.{AllWhole, Keeps}
+use Rattle.promise.proofs.Keeps.{AllWhole}
 use Rattle.rules.proofs.Renewing.{fresh, opened, formatted}
 use Rattle.promise.proofs.Good.{Good}
 

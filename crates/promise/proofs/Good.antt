@@ -11,24 +11,23 @@ use lib.Dec.{eqb, leb, ltb}
 use borrow.Author.Tests.{eqb-true, eqb-false, eq-eqb, ltb-true, leb-true, leb-false, not-true}
 use Rattle.rules.specs.Flash.{Step}
 use Rattle.rules.specs.Word.{Word, record-word, opening-word, word-steps}
-use Rattle.rules.specs.Page.{is-wear, State, cleared, Page, page, state, slots, slot-place, opening-place, done-place, blank-word, all-blank}
-use Rattle.rules.specs.Store.{states, base, order, used, is-cleared, used-orders, greatest, active-order, active-index, active-slots, slots-at, is-active, index-of, used-pages, oldest-first, journal, Setting, setting, last-of, put-all, free-slot, count, least-worn, index}
-use Rattle.rules.specs.Steps.{unclean, recovery-steps, append-steps, open-steps, move-steps, taken, copies, but, has-free-slot}
-use Rattle.rules.specs.Call.{among, repeats}
-use Rattle.rules.proofs.Truth.{by-cases, not-both, or-false-left, or-false-right}
-use Rattle.rules.proofs.Slots.{FreeAt, free-at, Lawful, put-all-lawful, but-lawful, lawful-append, all-records-lawful}
-use Rattle.rules.proofs.Settings.{append-few, copies-few, copies-length, copies-last}
-use Rattle.rules.proofs.Pages.{cleared-is, replicate-all-blank}
-use Rattle.rules.proofs.Stores.{orders, orders-used, greatest-among, greatest-upto, UpTo, Under, upto-under, ActiveAt, active-at, taken-at, slots-amid, repeats-insert, count-all, count-used}
+use Rattle.rules.specs.Page.{is-wear, Page, page, state, slot-place, opening-place, blank-word, all-blank}
+use Rattle.rules.specs.Store.{states, order, used, is-cleared, greatest, active-order, active-index, active-slots, used-pages, oldest-first, journal, Setting, setting, last-of, put-all, free-slot}
+use Rattle.rules.specs.Steps.{unclean, recovery-steps, append-steps, open-steps, taken, has-free-slot}
+use Rattle.rules.specs.Call.{repeats}
+use Rattle.rules.proofs.Truth.{or-false-left}
+use Rattle.rules.proofs.Slots.{FreeAt, Lawful, all-records-lawful}
+use Rattle.rules.proofs.Settings.{append-few}
+use Rattle.rules.proofs.Pages.{replicate-all-blank}
+use Rattle.rules.proofs.Stores.{orders, Under, ActiveAt, repeats-insert}
 use Rattle.rules.proofs.Phases.{Pages, Through, Turns, end, step, turn, wait, store-run, word-run, turns-after, turns-through}
-use Rattle.rules.proofs.Told.{told, Parted, parted, Headed, headed}
+use Rattle.rules.proofs.Told.{told, Parted, Headed}
 use Rattle.rules.proofs.Active as Active
 use Rattle.rules.proofs.Active.{Ordered, active-place, active-free, next-under, taken-page}
-use Rattle.promise.proofs.Keeps.{Whole, AllWhole, Keeps, whole-amid, whole-long}
+use Rattle.promise.proofs.Keeps.{Keeps, whole-long}
 use Rattle.promise.proofs.Renewals.{Idle, renewals-through}
 use Rattle.promise.proofs.Append.{Newest, append-turns}
 use Rattle.promise.proofs.Open.{begun, with-order, orders-apart, opened-newest, opened-keeps, opening-turns}
-use Rattle.promise.proofs.Move.{move-turns}
 
 -- The invariant. L is the greatest number that may be held.
 pub record Good (edition k n L : ℕ) (J : List Setting) (F : Pages) : Type 0 where
@@ -73,10 +72,6 @@ module _ (edition k′ n L : ℕ) where
 -- a good store in which each address has the value that t gives
 abbrev pub Has : (edition k n L : ℕ) → (ℕ → Option ℕ) → Pages → Type 0
 Has edition k n L t F = (J : List Setting) × Good edition k n L J F × ((x : ℕ) → last-of x J ≡ t x)
-
--- the values after a write
-abbrev pub then-put : List Setting → (a v : ℕ) → ℕ → Option ℕ
-then-put J a v x = last-of x (J ++ setting a v ∷ [])
 
 module _ (edition m n L : ℕ) (J : List Setting) (F : Pages) (g : Good edition (suc (suc (suc m))) n L J F) (a v : ℕ) (ne : a ≡ 65535 → ⊥) (room : last-of a J ≡ none → length (put-all [] J) < L) where
   still : (G : Pages) → Keeps edition (suc (suc (suc m))) n (g .base-order) (g .used-by) J G → Good edition (suc (suc (suc m))) n L J G

@@ -4,13 +4,11 @@ use mathlib.Core.Path.{_≡_, refl, sym, ap, _∙_, subst}
 use mathlib.Core.Logic.{_⊎_, inl, inr, ⊎-elim}
 use mathlib.Core.List.{List, [], _∷_}
 use lib.ListN.{length, getD}
-use Rattle.rules.specs.Flash.{Step, program, erase, after, run, Fails}
-use Rattle.rules.specs.Call.{cut}
-use Rattle.rules.proofs.Shape.{Within, store-after, StoreFails}
-use Rattle.rules.proofs.Cut.{cut-length, cut-page-length, cut-after, length-after, cut-fails, length-fails}
+use Rattle.rules.specs.Flash.{Step}
+use Rattle.rules.proofs.Cut.{cut-after, length-after, cut-fails, length-fails}
 use Rattle.promise.specs.Promise.{Left, between, failing, later}
 use Rattle.rules.proofs.Plans.{paged, Sized, fits-within}
-use Rattle.rules.proofs.Phases.{Pages, Fits, Through, Turns, StoreLeft, store-run, end, step, turns-through}
+use Rattle.rules.proofs.Phases.{Pages, Through, Turns, StoreLeft, step, turns-through}
 use Rattle.promise.proofs.Good.{turns-map}
 
 module _ (k n : ℕ) where

@@ -7,8 +7,8 @@ use mathlib.Core.List.{List, [], _∷_, _++_, map, map-append, nil≢cons, head-
 use native.Mathlib.Omega.{arith}
 use lib.ListN.{length, length-append, replicate, length-replicate}
 use Rattle.rules.specs.Word.{Word}
-use Rattle.rules.specs.Page.{State, Page, page, state, slots, wear-in}
-use Rattle.rules.specs.Store.{states, base, used, is-open, used-pages, oldest-first, Setting, all-records}
+use Rattle.rules.specs.Page.{Page, page, state}
+use Rattle.rules.specs.Store.{states, base, used, used-pages, oldest-first, Setting, all-records}
 use Rattle.rules.proofs.Pages.{AllLight, Fades}
 use Rattle.rules.proofs.Stores.{orders, fade-base, fade-pages}
 use Rattle.rules.proofs.Phases.{Pages}

@@ -13,14 +13,14 @@ use borrow.Author.Tests.{eqb-true, ltb-false, leb-true, not-false, eq-eqb}
 use Rattle.rules.specs.Flash.{Step, after, run}
 use Rattle.rules.specs.Word.{Word}
 use Rattle.rules.specs.Page.{Page}
-use Rattle.rules.specs.Store.{states, base, Setting, setting, last-of, value, count}
-use Rattle.rules.specs.Steps.{unclean, format-steps, recovery-steps, write-steps, is-value}
-use Rattle.rules.specs.Call.{page-size, page-edition, held-limit, cut, page-count, pages, wrong-size, store-number, is-unclean, write-number, wrong-address, is-held, or-value, then, stepped, write, format, read, Reading, accepted, no-room, order-end, OK, NO-STORE, DAMAGED, UNCLEAN, ADDRESS, NO-ROOM, ORDER-END}
+use Rattle.rules.specs.Store.{states, Setting, last-of, value, count}
+use Rattle.rules.specs.Steps.{format-steps, recovery-steps, write-steps, is-value}
+use Rattle.rules.specs.Call.{page-size, page-edition, held-limit, cut, page-count, pages, wrong-size, is-unclean, write-number, wrong-address, is-held, or-value, then, stepped, write, format, read, Reading, accepted, no-room, order-end, OK, NO-STORE, DAMAGED, UNCLEAN, ADDRESS, NO-ROOM, ORDER-END}
 use Rattle.rules.proofs.Truth.{by-cases, not-both, or-false-left, or-false-right}
 use Rattle.rules.proofs.Cut.{cut-length}
 use Rattle.rules.proofs.Settings.{last-of-here, last-of-other}
-use Rattle.promise.specs.Promise.{Left, between, failing, later, InUse, formatted, recovered, written, Recoveries, none as no-more, more, Cut, Promise, Recovers, Found, finds, recovery-of, write-of, nothing-is-lost, recovery-mends, what-is-written-is-found}
-use Rattle.rules.proofs.Phases.{Pages, Through, Turns, StoreLeft, through-left, through-end, turns-left, turns-later, turns-end, store-run}
+use Rattle.promise.specs.Promise.{Left, between, failing, later, InUse, formatted, recovered, written, Recoveries, none as no-more, more, Cut, Promise, Found, finds, recovery-of, write-of, nothing-is-lost, recovery-mends, what-is-written-is-found}
+use Rattle.rules.proofs.Phases.{Pages, Through, Turns, through-left, turns-left, turns-later, turns-end, store-run}
 use Rattle.rules.proofs.Told.{told}
 use Rattle.promise.proofs.Good.{Good, recovery-through}
 use Rattle.promise.proofs.Write.{Has, old-values, new-values, write-turns}

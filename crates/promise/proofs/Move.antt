@@ -11,23 +11,23 @@ use lib.Seq.{append-snoc}
 use lib.Dec.{leb, eqb}
 use borrow.Author.Tests.{le-leb, eq-eqb}
 use Rattle.rules.specs.Flash.{Step}
-use Rattle.rules.specs.Word.{Word, sound, record-word, opening-word, done-word, word-steps}
-use Rattle.rules.specs.Page.{blank-word, is-wear, is-opening, opening-part, done-part, State, open₁, open₂, Page, page, state, slots, slot-place, opening-place, done-place}
-use Rattle.rules.specs.Store.{states, base, order, order₂, used, is-open, used-pages, oldest-first, insert, Setting, setting, records, all-records}
+use Rattle.rules.specs.Word.{Word, sound, opening-word, done-word, word-steps}
+use Rattle.rules.specs.Page.{blank-word, is-wear, opening-part, done-part, State, open₂, Page, page, state, slots, opening-place, done-place}
+use Rattle.rules.specs.Store.{states, base, order, order₂, used, used-pages, oldest-first, insert, Setting, records, all-records}
 use Rattle.rules.specs.Steps.{copy-steps, renewals, add-steps, renew, renewed-wear}
 use Rattle.rules.proofs.Truth.{not-both}
-use Rattle.rules.proofs.Words.{Light, sound-light, opening-sound, record-sound, blank-not-sound, done-sound}
-use Rattle.rules.proofs.Pages.{AllLight, replicate-light, replicate-all-blank, unopened-not-open, undone-not-open, opened-received, opening-not-plain}
+use Rattle.rules.proofs.Words.{sound-light, opening-sound, blank-not-sound, done-sound}
+use Rattle.rules.proofs.Pages.{replicate-all-blank, undone-not-open, opened-received, opening-not-plain}
 use Rattle.rules.proofs.Slots.{blank-records, records-append, Lawful, written, written-records}
-use Rattle.rules.proofs.Stores.{Under, orders, base-amid, used-amid, NoneUsed, none-used, none-used-pages, under-append}
-use Rattle.rules.proofs.Phases.{Pages, Turns, Through, end, Partial, word-turns, word-run, word-through, turns-through, through-append, through-end, turns-after, turns-before, store-run, store-run-append}
+use Rattle.rules.proofs.Stores.{Under, orders, base-amid, used-amid, NoneUsed, none-used, none-used-pages}
+use Rattle.rules.proofs.Phases.{Pages, Turns, Through, word-turns, word-run, turns-through, through-append, through-end, turns-after, turns-before, store-run, store-run-append}
 use Rattle.rules.proofs.Told.{told, told-amid}
-use Rattle.promise.proofs.Keeps.{Whole, AllWhole, Keeps, whole-amid, amid-whole, same-count}
+use Rattle.promise.proofs.Keeps.{Whole, Keeps, whole-amid, amid-whole, same-count}
 use Rattle.promise.proofs.Renewals.{Idle, renewals-through}
 use Rattle.promise.proofs.Append.{whole-word}
 use Rattle.rules.proofs.Active.{taken-page}
 use Rattle.rules.proofs.Building.{room, room-is, copy-run, copy-through}
-use Rattle.promise.proofs.Open.{begun, closed-keeps, partial-opening, taken-whole, base-below, base-apart, under-apart}
+use Rattle.promise.proofs.Open.{closed-keeps, partial-opening, taken-whole, base-below, base-apart, under-apart}
 
 module _ (edition m n b : ℕ) (os : List ℕ) (J : List Setting) (f : Pages) (w : Word) (r : Pages) (o : ℕ) (worn : is-wear edition w ≡ true) (under : Under o os) (some-used : 0 < length os) (h : Keeps edition (suc (suc (suc m))) n b os J (f ++ taken-page m w ∷ r)) where
   abbrev k : ℕ

@@ -8,16 +8,16 @@ use native.Mathlib.Omega.{arith}
 use lib.ListN.{length, length-append, replicate, length-replicate}
 use lib.Dec.{leb}
 use borrow.Author.Tests.{le-leb}
-use Rattle.rules.specs.Word.{Word, sound, record-word, opening-word, done-word, word-steps}
-use Rattle.rules.specs.Page.{blank-word, is-wear, is-opening, opening-part, done-part, State, open₁, open₂, Page, page, state, slots, slot-place, opening-place, done-place}
-use Rattle.rules.specs.Store.{states, base, order, order₂, used, is-open, used-pages, oldest-first, Setting, setting, records, all-records}
-use Rattle.rules.proofs.Words.{Light, sound-light, opening-sound, record-sound, blank-not-sound, half-light}
-use Rattle.rules.proofs.Pages.{AllLight, Fades, replicate-light, replicate-all-blank, fresh-not-open, unopened-not-open, undone-not-open, opened-plain, opened-received, opening-not-plain}
+use Rattle.rules.specs.Word.{Word, opening-word, word-steps}
+use Rattle.rules.specs.Page.{blank-word, is-wear, opening-part, open₁, Page, page, state, slots, opening-place}
+use Rattle.rules.specs.Store.{states, base, order, order₂, used, is-open, used-pages, oldest-first, Setting, all-records}
+use Rattle.rules.proofs.Words.{sound-light, opening-sound}
+use Rattle.rules.proofs.Pages.{replicate-all-blank, fresh-not-open, unopened-not-open, opened-plain}
 use Rattle.rules.proofs.Slots.{blank-records}
-use Rattle.rules.proofs.Stores.{Below, Under, orders, orders-append, base-amid, used-amid, unused-amid, closed-not-used, closed-order₂, under-below, under-append, base-under, journal-amid}
-use Rattle.rules.proofs.Phases.{Pages, Turns, Through, Partial, word-turns, word-run, turns-through}
+use Rattle.rules.proofs.Stores.{Under, orders, orders-append, base-amid, used-amid, unused-amid, closed-not-used, closed-order₂, under-below, under-append, base-under, journal-amid}
+use Rattle.rules.proofs.Phases.{Pages, Turns, Partial, word-turns}
 use Rattle.rules.proofs.Told.{told, told-amid}
-use Rattle.promise.proofs.Keeps.{Whole, AllWhole, Keeps, whole-amid, amid-whole, same-count, keeps-fade}
+use Rattle.promise.proofs.Keeps.{Whole, Keeps, whole-amid, amid-whole, same-count, keeps-fade}
 use Rattle.rules.proofs.Active.{taken-page}
 use Rattle.promise.proofs.Append.{Newest, others, whole-word}
 

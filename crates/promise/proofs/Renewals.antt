@@ -7,18 +7,18 @@ use mathlib.Core.List.{List, [], _∷_, _++_, map, append-assoc}
 use native.Mathlib.Omega.{arith}
 use lib.ListN.{length, length-append, replicate, length-replicate}
 use lib.Seq.{append-snoc}
-use Rattle.rules.specs.Flash.{Step, erase}
-use Rattle.rules.specs.Word.{Word, wear-word, word-steps}
-use Rattle.rules.specs.Page.{blank-word, State, Page, page, state, wear-in}
+use Rattle.rules.specs.Flash.{erase}
+use Rattle.rules.specs.Word.{Word, wear-word}
+use Rattle.rules.specs.Page.{blank-word, State, page, state, wear-in}
 use Rattle.rules.specs.Store.{used, Setting}
 use Rattle.rules.specs.Steps.{renew, renewed-wear, add-steps, renewals}
 use Rattle.rules.proofs.Truth.{by-cases}
 use Rattle.rules.proofs.Words.{Light, wear-sound}
-use Rattle.rules.proofs.Shape.{target, page-after, WordsRise, PageFails, erasing, store-after, StoreFails}
+use Rattle.rules.proofs.Shape.{target, WordsRise, PageFails, erasing}
 use Rattle.rules.proofs.Pages.{AllLight, replicate-light, rise-light, rise-length, rise-fades, fresh-not-open}
-use Rattle.rules.proofs.Phases.{Pages, Through, end, step, store-run, store-run-append, through-end, through-append, after-amid, fails-amid, word-through, word-run, Fits, here-fits}
+use Rattle.rules.proofs.Phases.{Pages, Through, end, step, through-end, through-append, fails-amid, word-through, Fits, here-fits}
 use Rattle.rules.proofs.Renewing.{fresh, next-length, erased, renew-run, rest-steps}
-use Rattle.promise.proofs.Keeps.{Whole, AllWhole, Keeps, whole-amid, keeps-fade}
+use Rattle.promise.proofs.Keeps.{Keeps, whole-amid, keeps-fade}
 
 erase-fails : {p : ℕ} {pg qg : List Word} → PageFails (erase p) pg qg → WordsRise pg qg
 erase-fails (erasing r) = r

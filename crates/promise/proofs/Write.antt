@@ -9,16 +9,14 @@ use native.Mathlib.Omega.{arith}
 use lib.ListN.{length}
 use lib.Dec.{eqb, leb}
 use borrow.Author.Tests.{leb-true, leb-false}
-use Rattle.rules.specs.Flash.{Step}
 use Rattle.rules.specs.Word.{Word}
-use Rattle.rules.specs.Page.{is-wear, State, Page}
+use Rattle.rules.specs.Page.{is-wear}
 use Rattle.rules.specs.Store.{states, is-cleared, active-order, Setting, setting, settings, value, last-of, put-all, count}
-use Rattle.rules.specs.Steps.{unclean, write-steps, move-steps, open-steps, append-steps, taken, copies, but, copy-steps, has-free-slot, is-value, renewals}
+use Rattle.rules.specs.Steps.{unclean, write-steps, move-steps, open-steps, taken, copies, but, has-free-slot, is-value}
 use Rattle.rules.specs.Call.{among, repeats}
 use Rattle.rules.proofs.Truth.{by-cases}
 use Rattle.rules.proofs.Slots.{Lawful, put-all-lawful, but-lawful, lawful-append}
 use Rattle.rules.proofs.Settings.{copies-few, copies-length, copies-last}
-use Rattle.rules.proofs.Stores.{Under}
 use Rattle.rules.proofs.Phases.{Pages, Turns}
 use Rattle.rules.proofs.Told.{told}
 use Rattle.promise.proofs.Keeps.{Keeps}

@@ -245,26 +245,6 @@ unfolding Under
 under-front m [] ys h = tt
 under-front m (x ∷ xs) ys h = (h .0, under-front m xs ys (h .1))
 
--- a bound above the orders in use is, with 1 more, above the ranks
-pub ranks-under : (b o : ℕ) (ss : List State) → Under o (used-orders b ss) → Under (o + 1) (ranks b ss)
-unfolding ranks padded Under used-orders add-order
-ranks-under b o ss h = each ss (32 - length (map (rank b) ss)) h
-  where
-    zeros : (k : ℕ) → Under (o + 1) (replicate k 0)
-    zeros zero = tt
-    zeros (suc k) = (omega arith, zeros k)
-
-    each : (ss : List State) (k : ℕ) → Under o (used-orders b ss) → Under (o + 1) (map (rank b) ss ++ replicate k 0)
-    each [] k h = zeros k
-    each (s ∷ ss) k h =
-        by-cases (used b s)
-        (λ u.
-        let h′ = subst (λ (x : Bool). Under o (add-order x (order s) (used-orders b ss))) u h in
-        let l : order s < o = h′ .0 in
-        let e = rank-used b s u in
-        (omega arith, each ss k (h′ .1)))
-        (λ u. let e = rank-unused b s u in (omega arith, each ss k (rw u at h)))
-
 count-pages : (b : ℕ) (ps : List Page) → length (used-pages b ps) ≡ count (used b) (states ps)
 unfolding orders
 count-pages b ps = long (used-pages b ps) ∙ count-used b ps
@@ -302,8 +282,3 @@ lists b m n ps rs before after h d is u c e =
 pub at-place : (ps : List Page) (k : ℕ) (d : Page) → k < length ps → at-places ps (k ∷ []) ≡ getD ps k d ∷ []
 unfolding at-places
 at-place ps k d h = rw (drop-cons ps k d h)
-
-pub at-places-more : (ps : List Page) (places : List ℕ) (k : ℕ) (d : Page) → k < length places → getD places k 0 < length ps → at-places ps (take (k + 1) places) ≡ at-places ps (take k places) ++ getD ps (getD places k 0) d ∷ []
-at-places-more ps places k d h l =
-    ap (at-places ps) (rw (add-one, take-suc places k 0)) ∙ at-places-append ps (take k places) (getD places k 0 ∷ [])
-    ∙ ap (λ (qs : List Page). at-places ps (take k places) ++ qs) (at-place ps (getD places k 0) d l)

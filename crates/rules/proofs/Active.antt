@@ -8,8 +8,8 @@ use lib.ListN.{length, length-map, replicate, length-replicate}
 use lib.Dec.{ltb}
 use borrow.Author.Tests.{ltb-true}
 use Rattle.rules.specs.Word.{Word}
-use Rattle.rules.specs.Page.{blank-word, is-wear, State, cleared, Page, page, state, slots}
-use Rattle.rules.specs.Store.{states, base, used, is-cleared, used-orders, greatest, active-order, active-index, active-slots, slots-at, is-active, index-of, used-pages, free-slot, count, least-worn, index}
+use Rattle.rules.specs.Page.{blank-word, is-wear, cleared, Page, page, state, slots}
+use Rattle.rules.specs.Store.{states, base, used, is-cleared, used-orders, greatest, active-order, active-index, active-slots, slots-at, is-active, index-of, used-pages, free-slot, count, index}
 use Rattle.rules.specs.Steps.{unclean, taken, has-free-slot}
 use Rattle.rules.specs.Call.{among, repeats}
 use Rattle.rules.proofs.Cut.{AllLength}

@@ -9,9 +9,9 @@ use lib.ListN.{length, take}
 use lib.Dec.{eqb, leb, ltb}
 use borrow.Author.Tests.{le-leb, lt-leb, eq-eqb, ne-eqb}
 use Rattle.rules.specs.Flash.{Step, run}
-use Rattle.rules.specs.Store.{states, value, last-of}
-use Rattle.rules.specs.Steps.{format-steps, recovery-steps, write-steps, is-value}
-use Rattle.rules.specs.Call.{page-size, page-edition, page-count, pages, wrong-size, store-number, then, write-number, blank-read-number, read-number, is-unclean, wrong-address, is-held, no-room, order-end, accepted, Formatted, format, Stepped, stepped, recover, write, Reading, read, not-held-value, or-value, blank-value, blank-read, digits, among, Pairing, lookup, OK, SIZE, ADDRESS, NOT-HELD, UNCLEAN, NO-ROOM, ORDER-END}
+use Rattle.rules.specs.Store.{states, value}
+use Rattle.rules.specs.Steps.{format-steps, is-value}
+use Rattle.rules.specs.Call.{page-size, page-edition, page-count, pages, wrong-size, store-number, then, write-number, blank-read-number, read-number, is-unclean, wrong-address, is-held, no-room, order-end, accepted, format, stepped, write, read, or-value, blank-value, blank-read, digits, among, lookup, OK, SIZE, ADDRESS, NOT-HELD, UNCLEAN, NO-ROOM, ORDER-END}
 
 -- ---- numbers
 

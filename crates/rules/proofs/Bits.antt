@@ -19,11 +19,6 @@ unfolding Rises
 rises-refl zero a = refl
 rises-refl (suc k) a = (omega arith, rises-refl k (a / 2))
 
-pub rises-trans : (k a b c : ℕ) → Rises k a b → Rises k b c → Rises k a c
-unfolding Rises
-rises-trans zero a b c p q = p ∙ q
-rises-trans (suc k) a b c p q = (omega arith, rises-trans k (a / 2) (b / 2) (c / 2) (p .1) (q .1))
-
 -- what rises does not fall
 pub rises-le : (k a b : ℕ) → Rises k a b → a ≤ b
 unfolding Rises
@@ -60,24 +55,3 @@ rises-top (suc k) a h =
     let pos : 0 < 2 ^ k = pow-pos k in
     let half : (2 ^ suc k - 1) / 2 ≡ 2 ^ k - 1 = omega arith in
     (omega arith, rw half (rises-top k (a / 2) (omega arith)))
-
--- and that one rises to no other
-pub top-stays : (k a : ℕ) → Rises k (2 ^ k - 1) a → a ≡ 2 ^ k - 1
-unfolding Rises
-top-stays zero a p = sym p
-top-stays (suc k) a p =
-    let e : 2 ^ suc k ≡ 2 ^ k * 2 = pow-suc 2 k in
-    let pos : 0 < 2 ^ k = pow-pos k in
-    let half : (2 ^ suc k - 1) / 2 ≡ 2 ^ k - 1 = omega arith in
-    let low : (2 ^ suc k - 1) % 2 ≤ a % 2 = p .0 in
-    let rest : a / 2 ≡ 2 ^ k - 1 = top-stays k (a / 2) (rw half at (p .1)) in
-    omega arith
-
--- what is within the width stays within it
-pub rises-within : (k a b : ℕ) → a < 2 ^ k → Rises k a b → b < 2 ^ k
-unfolding Rises
-rises-within zero a b h p = omega arith
-rises-within (suc k) a b h p =
-    let e : 2 ^ suc k ≡ 2 ^ k * 2 = pow-suc 2 k in
-    let half : b / 2 < 2 ^ k = rises-within k (a / 2) (b / 2) (omega arith) (p .1) in
-    omega arith

@@ -9,10 +9,10 @@ use lib.ListN.{length, getD, drop, replicate}
 use lib.Dec.{eqb}
 use borrow.Author.Tests.{eq-eqb, ne-eqb, eqb-true}
 use Rattle.rules.specs.Word.{Word, word, sound, blank, low16, low24, third, wear-word, number-word, opening-word, done-word}
-use Rattle.rules.specs.Page.{blank-word, wear-part, opening-part, done-part, slots, is-wear, wear-in, is-opening, order-in, is-done, all-blank, State, cleared, open₁, open₂, receiving, bad, state-after-wear, state-by, state, Page, page}
+use Rattle.rules.specs.Page.{blank-word, wear-part, opening-part, done-part, slots, is-wear, wear-in, is-opening, order-in, is-done, all-blank, State, cleared, open₁, open₂, receiving, bad, state-after-wear, state-by, state, page}
 use Rattle.rules.specs.Store.{is-open}
 use Rattle.rules.proofs.Truth.{and-left, and-right, and-both, is-false, by-cases, not-both}
-use Rattle.rules.proofs.Words.{Light, light-sound, light-rises, half-light, blank-is, blank-light, blank-not-sound, wear-sound, wear-is, wear-edition, opening-sound, opening-order, opening-kind, number-is, number-sound}
+use Rattle.rules.proofs.Words.{Light, light-sound, light-rises, blank-is, blank-light, blank-not-sound, wear-sound, wear-is, wear-edition, opening-sound, opening-order, opening-kind, number-is, number-sound}
 use Rattle.rules.proofs.Shape.{WordsRise, none, more}
 
 -- ---- the state, test by test

@@ -12,7 +12,7 @@ use Rattle.rules.specs.Word.{Word, word, sound, word-steps}
 use Rattle.rules.specs.Page.{blank-word}
 use Rattle.rules.proofs.Truth.{by-cases}
 use Rattle.rules.proofs.Words.{Light, half-light, half-not-sound, sound-light, torn-light, torn-sound}
-use Rattle.rules.proofs.Shape.{with-half, target, page-after, WordsRise, PageFails, half-way, erasing, store-after, StoreFails}
+use Rattle.rules.proofs.Shape.{with-half, target, page-after, PageFails, half-way, store-after, StoreFails}
 use mathlib.Core.Bool.{Bool, true, false}
 
 -- the pages of a store, as words

@@ -10,7 +10,7 @@ use Rattle.rules.specs.Flash.{Half, first, second, Step, program, erase,
 use Rattle.rules.specs.Word.{Word, word, words, word-steps}
 use Rattle.rules.specs.Page.{blank-word}
 use Rattle.rules.specs.Call.{cut}
-use Rattle.rules.proofs.Shape.{Within, store-after}
+use Rattle.rules.proofs.Shape.{Within}
 use Rattle.rules.proofs.Cut.{drop-sets-above, drop-sets-below, cut-length, cut-page, cut-page-length, cut-after, length-after, page-within, page-bytes-length, words-at}
 use Rattle.rules.proofs.Phases.{Pages, BlankHalf, Fits, Through, end, step, store-run}
 
@@ -20,11 +20,6 @@ pub run-append : (size : ℕ) (xs ys : List Step) (i : List ℕ) → run size (x
 unfolding run
 run-append size [] ys i = refl
 run-append size (s ∷ xs) ys i = run-append size xs ys (after size s i)
-
-pub run-length : (size : ℕ) (ss : List Step) (i : List ℕ) → length (run size ss i) ≡ length i
-unfolding run
-run-length size [] i = refl
-run-length size (s ∷ ss) i = run-length size ss (after size s i) ∙ length-after size s i
 
 -- what is left of an allowance after one list is what the next may take
 pub take-append : {A : Type 0} (n : ℕ) (xs ys : List A) → take n (xs ++ ys) ≡ take n xs ++ take (n - length xs) ys
@@ -48,11 +43,6 @@ pub allowed-split : (size : ℕ) (xs ys : List Step) (i : List ℕ) → AllAllow
 unfolding AllAllowed run
 allowed-split size [] ys i h = (tt, h)
 allowed-split size (s ∷ xs) ys i h = let t = allowed-split size xs ys (after size s i) (h .1) in ((h .0, t .0), t .1)
-
-pub allowed-join : (size : ℕ) (xs ys : List Step) (i : List ℕ) → AllAllowed size xs i → AllAllowed size ys (run size xs i) → AllAllowed size (xs ++ ys) i
-unfolding AllAllowed run
-allowed-join size [] ys i p q = q
-allowed-join size (s ∷ xs) ys i p q = (p .0, allowed-join size xs ys (after size s i) (p .1) q)
 
 pub allowed-take : (size n : ℕ) (ss : List Step) (i : List ℕ) → AllAllowed size ss i → AllAllowed size (take n ss) i
 unfolding AllAllowed

@@ -10,12 +10,12 @@ use lib.ListN.{length, length-append, length-map, drop}
 use lib.Dec.{eqb, leb, ltb}
 use borrow.Author.Tests.{eqb-true, eqb-false, eq-eqb, ltb-false, leb-true, leb-false, le-leb, not-false}
 use Rattle.rules.specs.Flash.{Step}
-use Rattle.rules.specs.Word.{Word, words, word-steps, record-word, opening-word, done-word}
-use Rattle.rules.specs.Page.{State, cleared, open₁, open₂, receiving, bad, Page, page, blank-word, slot-place, opening-place, done-place}
-use Rattle.rules.specs.Store.{states, order₂, base, used, is-open, is-cleared, used-orders, used-pages, active-order, active-index, free-slot, active-slots, count, held, Setting}
-use Rattle.rules.specs.Steps.{format-steps, append-steps, open-steps, unclean, taken, copies, copy-steps, has-free-slot}
-use Rattle.rules.specs.Call.{page-size, page-edition, page-count, cut, pages, wrong-size, no-store, repeats, all-used, damaged, is-unclean, store-number, OK, SIZE, NO-STORE, DAMAGED, held-limit}
-use Rattle.rules.proofs.Truth.{failed, by-cases, not-both, is-false, or-false-left, or-false-right}
+use Rattle.rules.specs.Word.{Word, word-steps, record-word, opening-word, done-word}
+use Rattle.rules.specs.Page.{State, cleared, open₁, open₂, receiving, bad, page, blank-word, slot-place, opening-place, done-place}
+use Rattle.rules.specs.Store.{states, order₂, base, used, is-open, is-cleared, used-orders, used-pages, active-order, active-index, free-slot, active-slots, count, Setting}
+use Rattle.rules.specs.Steps.{format-steps, append-steps, open-steps, taken, copy-steps, has-free-slot}
+use Rattle.rules.specs.Call.{page-size, page-edition, page-count, cut, pages, wrong-size, no-store, repeats, all-used, damaged, is-unclean, store-number, OK}
+use Rattle.rules.proofs.Truth.{failed, by-cases, or-false-left, or-false-right}
 use Rattle.rules.proofs.Cut.{cut-length, cut-all-length}
 use Rattle.rules.proofs.Phases.{Pages, Through}
 use Rattle.rules.proofs.Plans.{AllAllowed, through-allowed}

@@ -8,7 +8,7 @@ use lib.ListN.{length, length-append, replicate}
 use lib.Seq.{append-snoc}
 use Rattle.rules.specs.Flash.{Step, erase}
 use Rattle.rules.specs.Word.{Word, wear-word, opening-word, word-steps}
-use Rattle.rules.specs.Page.{blank-word, State, Page, page, state, wear-in, opening-place}
+use Rattle.rules.specs.Page.{blank-word, State, page, state, wear-in, opening-place}
 use Rattle.rules.specs.Steps.{renew, renew-all, format-steps, renewed-wear, add-steps, renewals}
 use Rattle.rules.proofs.Truth.{by-cases}
 use Rattle.rules.proofs.Words.{wear-sound, opening-sound}

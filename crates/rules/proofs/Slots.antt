@@ -8,11 +8,11 @@ use native.Mathlib.Omega.{arith}
 use lib.ListN.{length, replicate}
 use lib.Dec.{eqb}
 use borrow.Author.Tests.{eqb-true, eqb-false, eq-eqb, ne-eqb}
-use Rattle.rules.specs.Word.{Word, sound, blank, Condition, Sound, Blank, Spoiled, condition, low16, third, record-word, slot-condition}
+use Rattle.rules.specs.Word.{Word, sound, blank, Condition, Sound, Blank, Spoiled, condition, low16, record-word, slot-condition}
 use Rattle.rules.specs.Page.{blank-word, Page, all-blank}
-use Rattle.rules.specs.Store.{Setting, setting, add-record, records, all-records, insert, oldest-first, put, put-all, past, free-slot}
+use Rattle.rules.specs.Store.{Setting, setting, add-record, records, all-records, put, put-all, past, free-slot}
 use Rattle.rules.specs.Steps.{but}
-use Rattle.rules.proofs.Truth.{and-left, and-right, and-both, is-false, by-cases, not-both}
+use Rattle.rules.proofs.Truth.{and-left, and-right, by-cases}
 use Rattle.rules.proofs.Words.{blank-is, record-address, record-value, record-sound, blank-not-sound}
 use Rattle.rules.proofs.Settings.{put-cases, but-cases}
 

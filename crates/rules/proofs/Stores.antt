@@ -9,10 +9,10 @@ use lib.ListN.{length, length-append}
 use lib.Dec.{eqb, leb}
 use borrow.Author.Tests.{le-leb, lt-leb, leb-true, leb-false, eqb-true, eqb-false, eq-eqb, ne-eqb}
 use Rattle.rules.specs.Page.{State, cleared, open₁, open₂, receiving, bad, Page}
-use Rattle.rules.specs.Store.{states, order₂, base, used, is-cleared, is-open, order, add-order, used-orders, greatest, active-order, is-active, index-of, active-index, add-page, used-pages, insert, oldest-first, Setting, records, all-records, slots-at, journal, count, Candidate, nobody, page, better, offered, least-worn, index}
+use Rattle.rules.specs.Store.{states, order₂, base, used, is-cleared, is-open, order, add-order, used-orders, greatest, is-active, index-of, add-page, used-pages, insert, oldest-first, Setting, records, all-records, slots-at, journal, count, Candidate, nobody, page, better, offered, least-worn}
 use Rattle.rules.specs.Steps.{unclean}
 use Rattle.rules.specs.Call.{among, repeats}
-use Rattle.rules.proofs.Truth.{and-left, and-right, and-both, is-false, by-cases, not-both, or-first, or-second, or-false-left, or-false-right}
+use Rattle.rules.proofs.Truth.{is-false, by-cases, not-both, or-first, or-second, or-false-left, or-false-right}
 use Rattle.rules.proofs.Pages.{Fades}
 
 -- ---- one part after the other
@@ -135,11 +135,6 @@ below-oldest : (m : ℕ) (ps : List Page) → Below m ps → Below m (oldest-fir
 unfolding Below oldest-first
 below-oldest m [] h = tt
 below-oldest m (p ∷ ps) h = below-insert m p (oldest-first ps) (h .0) (below-oldest m ps (h .1))
-
-below-append : (m : ℕ) (xs ys : List Page) → Below m xs → Below m ys → Below m (xs ++ ys)
-unfolding Below
-below-append m [] ys h t = t
-below-append m (x ∷ xs) ys h t = (h .0, below-append m xs ys (h .1) t)
 
 pub greatest-last : (q : Page) (xs ys : List Page) → Below (order (q .state)) xs → Below (order (q .state)) ys → oldest-first (xs ++ q ∷ ys) ≡ oldest-first (xs ++ ys) ++ q ∷ []
 unfolding Below oldest-first

@@ -5,10 +5,10 @@ use mathlib.Core.Bool.{Bool, true, false, cond, _&&_}
 use native.Mathlib.Omega.{arith}
 use borrow.Author.Tests.{eqb-true, eq-eqb, ne-eqb}
 use Rattle.rules.specs.Flash.{Rises}
-use Rattle.rules.specs.Word.{Word, word, zeros, check, sound, blank, Condition, Sound, Blank, Spoiled, condition, low16, low24, third, checked, wear-word, number-word, opening-word, done-word, record-word, slot-condition}
+use Rattle.rules.specs.Word.{Word, word, check, sound, blank, low16, low24, third, checked, wear-word, number-word, opening-word, done-word, record-word}
 use lib.Dec.{eqb}
 use Rattle.rules.specs.Page.{order-in, blank-word}
-use Rattle.rules.proofs.Truth.{and-left, and-right, is-false, not-both}
+use Rattle.rules.proofs.Truth.{and-left, and-right}
 use Rattle.rules.proofs.Bits.{rises-refl, rises-le, zeros-bound, zeros-fall, zeros-stay}
 
 -- ---- torn words
@@ -93,9 +93,6 @@ blank-light = half-light 255 255
 pub blank-not-sound : sound blank-word ≡ false
 blank-not-sound = half-not-sound 255 255 255
 
-pub sound-not-blank : (w : Word) → sound w ≡ true → blank w ≡ false
-sound-not-blank w s = is-false (blank w) (λ h. not-both s (rw (blank-is w h) blank-not-sound))
-
 -- ---- making a word and reading it back
 
 pub checked-sound : (a b c : ℕ) → sound (checked a b c) ≡ true
@@ -161,14 +158,6 @@ pub wear-sound : (m n : ℕ) → sound (wear-word m n) ≡ true
 unfolding wear-word
 wear-sound m n = checked-sound (n % 256) (n / 256) m
 
-pub wear-is-word : (m n : ℕ) → m < 256 → n < 65536 → IsWord (wear-word m n)
-unfolding wear-word
-wear-is-word m n p q = checked-is-word (n % 256) (n / 256) m (omega arith) (omega arith) p
-
-pub wear-of : (w : Word) → IsWord w → sound w ≡ true → wear-word (third w) (low16 w) ≡ w
-unfolding wear-word low16 third
-wear-of (word a b c d) (is-word p q r s) t = rw (join16-low a b p, join16-high a b p) (sound-is-checked a b c d t)
-
 pub number-is : (n : ℕ) → low24 (number-word n) ≡ n
 unfolding low24 number-word checked
 number-is n = split24 n
@@ -176,10 +165,6 @@ number-is n = split24 n
 pub number-sound : (n : ℕ) → sound (number-word n) ≡ true
 unfolding number-word
 number-sound n = checked-sound (n % 256) (n / 256 % 256) (n / 65536)
-
-pub number-is-word : (n : ℕ) → n < 16777216 → IsWord (number-word n)
-unfolding number-word
-number-is-word n h = checked-is-word (n % 256) (n / 256 % 256) (n / 65536) (omega arith) (omega arith) (omega arith)
 
 pub number-of : (w : Word) → IsWord w → sound w ≡ true → number-word (low24 w) ≡ w
 unfolding number-word low24
@@ -202,19 +187,6 @@ opening-kind k o h = let e = number-is (o * 4 + k) in omega arith
 pub opening-sound : (k o : ℕ) → sound (opening-word k o) ≡ true
 unfolding opening-word
 opening-sound k o = number-sound (o * 4 + k)
-
-pub opening-is-word : (k o : ℕ) → k < 4 → o < 4194304 → IsWord (opening-word k o)
-unfolding opening-word
-opening-is-word k o p q = number-is-word (o * 4 + k) (omega arith)
-
-pub opening-of : (w : Word) → IsWord w → sound w ≡ true → opening-word (low24 w % 4) (order-in w) ≡ w
-unfolding opening-word order-in
-opening-of w i s = let e : low24 w / 4 * 4 + low24 w % 4 ≡ low24 w = omega arith in rw e (number-of w i s)
-
--- the done word is the opening word of kind 3
-pub done-is-opening : (o : ℕ) → done-word o ≡ opening-word 3 o
-unfolding done-word opening-word
-done-is-opening o = refl
 
 pub done-sound : (o : ℕ) → sound (done-word o) ≡ true
 unfolding done-word

@@ -8,7 +8,7 @@ use lib.Dec.{eqb, leb, ltb}
 use Rattle.rules.specs.Flash.{Step, run}
 use Rattle.rules.specs.Word.{Word, words}
 use Rattle.rules.specs.Page.{State, Page, page}
-use Rattle.rules.specs.Store.{states, base, used, is-open, is-cleared, used-orders, active-order, count, held, value}
+use Rattle.rules.specs.Store.{states, base, used, is-open, used-orders, active-order, count, held, value}
 use Rattle.rules.specs.Steps.{format-steps, recovery-steps, write-steps, unclean, is-value, has-free-slot}
 
 -- "1,024-byte pages"; "the byte 1" of a wear word; "held addresses at most 192"; "order 0 to 4,194,303"

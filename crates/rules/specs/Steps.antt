@@ -6,7 +6,7 @@ use mathlib.Core.Option.{Option, none, some}
 use lib.ListN.{length}
 use lib.Dec.{eqb, leb, ltb}
 use Rattle.rules.specs.Flash.{Step, erase}
-use Rattle.rules.specs.Word.{Word, word-steps, wear-word, opening-word, done-word, record-word}
+use Rattle.rules.specs.Word.{word-steps, wear-word, opening-word, done-word, record-word}
 use Rattle.rules.specs.Page.{State, Page, wear-place, opening-place, done-place, slot-place}
 use Rattle.rules.specs.Store.{states, base, used, is-cleared, active-order, active-index, active-slots, count, least-worn, index, Setting, setting, settings, value, free-slot}
 

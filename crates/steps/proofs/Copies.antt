@@ -15,7 +15,6 @@ use Rattle.rules.specs.Word.{Word, word, record-word, word-steps}
 use Rattle.rules.specs.Page.{slot-place}
 use Rattle.rules.specs.Store.{Setting, setting}
 use Rattle.rules.specs.Steps.{but, copy-steps}
-use Rattle.rules.proofs.Settings.{but-cases, but-length}
 use Rattle.rules.proofs.Plans.{AllAllowed, allowed-cut, cut-run}
 use Rattle.steps.specs.Copied.{rows, copied}
 
@@ -110,14 +109,6 @@ module _ (xs ys : List ℕ) (a : ℕ) where
         ap (λ (zs : List Setting). but a zs ++ (setting a v ∷ [])) (r .1) ∙ ap (λ (zs : List Setting). zs ++ (setting a v ∷ [])) (but-append a (rows xs ys (j + 1)) (r .0) ∙ ap (λ (zs : List Setting). zs ++ but a (r .0)) (row-kept j ne))
             ∙ append-assoc (but a (rows xs ys j) ++ (row j ∷ [])) (but a (r .0)) (setting a v ∷ []) ∙ append-snoc (but a (rows xs ys j)) (row j) (but a (r .0) ++ (setting a v ∷ [])),
       )
-
-  pub rows-length : (n : ℕ) → length (rows xs ys n) ≡ n
-  unfolding rows
-  rows-length zero = refl
-  rows-length (suc n) = let e = length-append (rows xs ys n) (row n ∷ []) in let r = rows-length n in omega arith
-
-  pub kept-few : (j : ℕ) → length (but a (rows xs ys j)) ≤ j
-  kept-few j = let e = but-length a (rows xs ys j) in let r = rows-length j in omega arith
 
 -- what holds when the loop has passed j rows
 pub record Copying (p left a : ℕ) (xs ys i : List ℕ) (j : ℕ) (image : List ℕ) (rest place : ℕ) : Type 0 where

@@ -5,8 +5,8 @@ use mathlib.Core.List.{List, [], _∷_, _++_}
 use native.Mathlib.Omega.{arith}
 use lib.ListN.{length, take, drop}
 use lib.Seq.{sets}
-use Rattle.rules.specs.Flash.{Step, program, erase, first, second, offset, aim, bytes-at, Allowed, after, run}
-use Rattle.rules.specs.Word.{Word, word, word-steps}
+use Rattle.rules.specs.Flash.{Step, program, first, second, offset, aim, bytes-at, Allowed, after, run}
+use Rattle.rules.specs.Word.{word, word-steps}
 use Rattle.rules.proofs.Plans.{AllAllowed}
 
 -- nothing is done where nothing is left

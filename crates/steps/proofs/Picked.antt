@@ -14,7 +14,7 @@ use Rattle.rules.specs.Steps.{renew, renewed-wear, add-steps, renewals}
 use Rattle.rules.specs.Call.{cut}
 use Rattle.rules.proofs.Truth.{by-cases}
 use Rattle.rules.proofs.Cut.{cut-length, cut-page, drop-sets-below}
-use Rattle.rules.proofs.Plans.{cut-run, run-length}
+use Rattle.rules.proofs.Plans.{cut-run}
 use Rattle.steps.specs.Picked.{wear-at, picked-steps}
 
 -- the part that the code lends is the page

@@ -9,14 +9,14 @@ use lib.Seq.{take-suc, drop-drop, getD-take, length-take-le, take-nil}
 use Rattle.rules.specs.Flash.{bytes-at}
 use Rattle.rules.specs.Word.{words}
 use Rattle.rules.specs.Page.{Page, page, slots}
-use Rattle.rules.specs.Store.{Setting, records, all-records, put-all, states, base, used-pages, oldest-first, journal, settings}
+use Rattle.rules.specs.Store.{Setting, records, all-records, put-all, states, base, journal, settings}
 use Rattle.rules.specs.Call.{page-size, page-edition, page-count, cut, pages}
 use Rattle.rules.proofs.Cut.{cut-length, cut-page}
 use Rattle.rules.proofs.Stores.{all-records-append}
-use Rattle.rules.proofs.Settings.{Rising, settings-rising, put-all-append}
+use Rattle.rules.proofs.Settings.{settings-rising, put-all-append}
 use Rattle.pages.proofs.Header.{slots-at}
 use Rattle.ranks.specs.Places.{at-places}
-use Rattle.ranks.proofs.Meaning.{Lists, at-place, at-places-append}
+use Rattle.ranks.proofs.Meaning.{Lists, at-place}
 use Rattle.settings.specs.Held.{Holds, Become}
 use Rattle.store.specs.Gather.{gathered}
 

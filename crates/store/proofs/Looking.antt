@@ -7,12 +7,12 @@ use native.Mathlib.Omega.{arith}
 use lib.ListN.{length, take, getD}
 use lib.Dec.{eqb, ltb}
 use borrow.Author.Tests.{eqb-true, eqb-false, eq-eqb, ne-eqb}
-use Rattle.rules.specs.Page.{State, bad}
+use Rattle.rules.specs.Page.{State}
 use Rattle.rules.specs.Store.{states, base, used, is-open, used-orders, count, held}
-use Rattle.rules.specs.Call.{page-count, pages, wrong-size, no-store, repeats, all-used, damaged, store-number, then, held-limit, OK, SIZE, NO-STORE, DAMAGED}
+use Rattle.rules.specs.Call.{pages, wrong-size, no-store, repeats, all-used, damaged, store-number, then, held-limit, OK, SIZE, NO-STORE, DAMAGED}
 use Rattle.rules.proofs.Truth.{by-cases, not-both, failed, or-false-left}
 use Rattle.rules.proofs.Answers.{then-refused}
-use Rattle.rules.proofs.Stores.{Under, count-open}
+use Rattle.rules.proofs.Stores.{count-open}
 use Rattle.rules.proofs.Ready.{some-used}
 use Rattle.pages.specs.Read.{as-state}
 use Rattle.ranks.specs.Ranks.{rank, ranks}
@@ -20,9 +20,8 @@ use Rattle.ranks.specs.Places.{taken-places, doubled}
 use Rattle.ranks.proofs.Meaning.{count-ranks, repeats-ranks, under-each}
 use Rattle.survey.specs.Survey.{Counted, first-states, filled, OrdersFit, spare, spares}
 use Rattle.survey.proofs.Sizes.{counted-none, counted-some}
-use Rattle.survey.proofs.Kept.{fit-filled, length-ranks, rank-at-below}
+use Rattle.survey.proofs.Kept.{fit-filled, rank-at-below}
 use Rattle.survey.proofs.Coded.{base-looked, ranks-looked, spares-looked, states-looked}
-use Rattle.store.specs.declared.Look.{Look}
 use Rattle.store.specs.Look.{pages-number, counted-number, Looks}
 use Rattle.store.specs.Opened.{with-held}
 use Rattle.pages.specs.declared.State.{State as Code}

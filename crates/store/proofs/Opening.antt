@@ -8,7 +8,7 @@ use lib.ListN.{length, getD, take, drop, length-append, length-map}
 use lib.Dec.{ltb}
 use borrow.Author.Tests.{lt-ltb, le-ltb, ltb-true, ltb-false}
 use Rattle.rules.specs.Page.{page}
-use Rattle.rules.specs.Store.{states, base, used, count, settings, held, put-all}
+use Rattle.rules.specs.Store.{states, base, used, settings, held}
 use Rattle.rules.specs.Call.{page-size, page-edition, page-count, cut, pages, wrong-size, held-limit}
 use Rattle.rules.proofs.Truth.{by-cases}
 use Rattle.rules.proofs.Cut.{cut-length}
@@ -19,10 +19,8 @@ use Rattle.ranks.proofs.Meaning.{Lists, lists, length-line}
 use Rattle.settings.specs.Held.{Holds}
 use Rattle.settings.proofs.Tables.{held-few, held-many}
 use Rattle.store.specs.declared.Look.{Look}
-use Rattle.store.specs.Look.{pages-number, Looks}
-use Rattle.store.specs.Gather.{gathered}
+use Rattle.store.specs.Look.{Looks}
 use Rattle.store.proofs.Looking.{pages-sized, pages-apart}
-use Rattle.store.proofs.Gathering.{gathered-settings}
 
 pub pages-long : (i : List ℕ) → length (pages i) ≡ page-count i
 unfolding pages

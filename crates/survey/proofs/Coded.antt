@@ -84,10 +84,3 @@ pub record Looked (ss : List State) (b : ℕ) (rs qs : List ℕ) : Type 0 where
   pub based : b ≡ base ss
   pub ranked : rs ≡ ranks (base ss) ss
   pub spared : qs ≡ spares ss
-
-pub looked : {i : List ℕ} {n : ℕ} (xs : List Code) {b : ℕ} {rs qs : List ℕ} → Counted i n → (n ≡ 0 → ⊥) → map as-state xs ≡ filled (first-states n i) → b ≡ base (map as-state xs) → rs ≡ map (rank b) (map as-state xs) → qs ≡ map spare (map as-state xs) → Looked (states (pages i)) b rs qs
-looked {i} {n} xs {b} k ne e p q r =
-    let ss = states (pages i) in
-    let f : map as-state xs ≡ filled ss = e ∙ ap filled (states-looked k ne .0) in
-    let o : b ≡ base ss = base-looked xs ss f p in
-    record { based = o; ranked = ranks-looked xs ss f b q ∙ ap (λ o. ranks o ss) o; spared = spares-looked xs ss f r }

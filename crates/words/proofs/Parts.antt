@@ -6,7 +6,7 @@ use native.Mathlib.Omega.{arith}
 use native.Mathlib.Nat.{add-assoc}
 use lib.ListN.{length, getD, take, drop}
 use lib.Seq.{getD-take, getD-drop}
-use Rattle.rules.specs.Word.{Word, word, words}
+use Rattle.rules.specs.Word.{word, words}
 use Rattle.rules.specs.Page.{blank-word}
 use Rattle.words.specs.Read.{word-in}
 
@@ -32,22 +32,10 @@ word-of (a ∷ b ∷ c ∷ []) k h = absurd (omega arith)
 word-of (a ∷ b ∷ c ∷ d ∷ s) zero h = refl
 word-of (a ∷ b ∷ c ∷ d ∷ s) (suc k) h = rw (four k, past a b c d s (4 * k)) (word-of s k (omega arith))
 
-pub word-in-take : (n at : ℕ) (s : List ℕ) → at + 4 ≤ n → word-in (take n s) at ≡ word-in s at
-unfolding word-in
-word-in-take n at s h =
-    let h0 : at < n = omega arith in
-    let h1 : at + 1 < n = omega arith in
-    let h2 : at + 2 < n = omega arith in
-    let h3 : at + 3 < n = omega arith in
-    simp getD-take
-
 -- the word at an offset of a part is the one at both offsets of the whole
 pub word-in-drop : (o at : ℕ) (s : List ℕ) → word-in (drop o s) at ≡ word-in s (o + at)
 unfolding word-in
 word-in-drop o at s = simp (getD-drop, ← add-assoc)
-
-pub word-in-part : (o n at : ℕ) (s : List ℕ) → at + 4 ≤ n → word-in (take n (drop o s)) at ≡ word-in s (o + at)
-word-in-part o n at s h = word-in-take n at (drop o s) h ∙ word-in-drop o at s
 
 -- there are as many as fours of bytes
 pub length-words : (s : List ℕ) → length (words s) ≡ length s / 4
@@ -67,12 +55,3 @@ drop-words (suc k) (a ∷ []) = rw (four k)
 drop-words (suc k) (a ∷ b ∷ []) = rw (four k)
 drop-words (suc k) (a ∷ b ∷ c ∷ []) = rw (four k)
 drop-words (suc k) (a ∷ b ∷ c ∷ d ∷ s) = rw (four k) (drop-words k s)
-
-pub take-words : (k : ℕ) (s : List ℕ) → words (take (4 * k) s) ≡ take k (words s)
-unfolding words
-take-words zero s = refl
-take-words (suc k) [] = rw (four k)
-take-words (suc k) (a ∷ []) = rw (four k)
-take-words (suc k) (a ∷ b ∷ []) = rw (four k)
-take-words (suc k) (a ∷ b ∷ c ∷ []) = rw (four k)
-take-words (suc k) (a ∷ b ∷ c ∷ d ∷ s) = rw (four k) (ap (λ (ws : List Word). word a b c d ∷ ws) (take-words k s))

@@ -2,20 +2,12 @@
 use Prim.Native.Nat.{ℕ, _+_}
 use mathlib.Core.List.{List}
 use lib.ListN.{getD}
-use Rattle.rules.specs.Word.{Word, word, Condition, Sound, Blank, Spoiled}
+use Rattle.rules.specs.Word.{Word, word}
 use Rattle.words.specs.declared.Word.{Word as Bytes}
-use Rattle.words.specs.declared.Condition.{Condition as Answer}
-use Rattle.words.specs.declared.Condition.the-variants.{Sound as Is-sound, Blank as Is-blank, Spoiled as Is-spoiled}
 
 -- the word of four bytes
 abbrev pub as-word : Bytes → Word
 as-word w = word (w .a) (w .b) (w .c) (w .d)
-
--- the condition that each case names
-abbrev pub as-condition : Answer → Condition
-as-condition Is-sound = Sound
-as-condition Is-blank = Blank
-as-condition Is-spoiled = Spoiled
 
 -- the word that begins at an offset of a list of bytes
 unfoldable pub word-in : List ℕ → ℕ → Word

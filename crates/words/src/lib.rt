@@ -1,21 +1,15 @@
-// Words of four bytes: the check, the three conditions, the makers and the readers of 01, "Words".
+// Words of four bytes: the check, the makers and the readers of 01, "Words".
 ghost use mathlib.Core.Path.{_≡_};
 ghost use Prim.Native.Nat.{_+_, _≤_, _<_};
 ghost use lib.ListN.{length};
-ghost use Rattle.rules.specs.Word.{zeros, check, sound, blank, condition, low16, low24, checked, wear-word, number-word, opening-word, done-word, record-word};
-ghost use Rattle.words.specs.Read.{as-word, as-condition, word-in};
+ghost use Rattle.rules.specs.Word.{zeros, check, sound, blank, low16, low24, checked, wear-word, number-word, opening-word, done-word, record-word};
+ghost use Rattle.words.specs.Read.{as-word, word-in};
 
 pub struct Word {
     pub a: u8,
     pub b: u8,
     pub c: u8,
     pub d: u8,
-}
-
-pub enum Condition {
-    Sound,
-    Blank,
-    Spoiled,
 }
 
 // The number of 0 bits of a byte; the bound lets every caller's sum close by itself.
@@ -55,19 +49,6 @@ pub fn is_blank(w: Word) -> bool
     w.d == 255
 }
 
-// A blank word is never sound, so the order of the two tests is of no matter.
-pub fn condition_of(w: Word) -> Condition
-    ensures { λ r. ⌜ as-condition r ≡ condition (as-word w) ⌝ }
-{
-    if is_sound(w) {
-        return Condition::Sound;
-    }
-    if is_blank(w) {
-        return Condition::Blank;
-    }
-    Condition::Spoiled
-}
-
 // The word that begins at an offset of the bytes.
 pub fn word_at(s: &[u8], at: usize) -> Word
     requires { ⌜ at + 4 ≤ length (now s) ⌝ }
@@ -79,13 +60,6 @@ pub fn word_at(s: &[u8], at: usize) -> Word
         c: s[at + 2],
         d: s[at + 3],
     }
-}
-
-pub fn condition_at(s: &[u8], at: usize) -> Condition
-    requires { ⌜ at + 4 ≤ length (now s) ⌝ }
-    ensures { λ r. ⌜ as-condition r ≡ condition (word-in (now (s .entry)) at) ⌝ }
-{
-    condition_of(word_at(s, at))
 }
 
 // The sound word of three bytes: every maker below goes through it.

@@ -7,7 +7,7 @@ use lib.ListN.{length, take}
 use Rattle.rules.specs.Flash.{Step, run}
 use Rattle.rules.specs.Word.{Word, word, opening-word, word-steps}
 use Rattle.rules.specs.Steps.{renew-all, format-steps}
-use Rattle.rules.specs.Call.{page-edition, page-count, wrong-size, Formatted, format}
+use Rattle.rules.specs.Call.{page-count, wrong-size, Formatted, format}
 use Rattle.rules.proofs.Plans.{AllAllowed, allowed-split, run-append}
 use Rattle.rules.proofs.Ready.{format-allowed}
 use Rattle.rules.proofs.Answers.{format-refused, format-done}

@@ -20,11 +20,10 @@ use Rattle.rules.specs.Call.{cut}
 use Rattle.rules.proofs.Truth.{by-cases}
 use Rattle.rules.proofs.Shape.{Within, target, page-after, store-after}
 use Rattle.rules.proofs.Cut.{cut-after, cut-length, length-after}
-use Rattle.rules.proofs.Plans.{AllAllowed, run-append, run-length, cut-run}
 use Rattle.rules.proofs.Settings.{Rising, but-cases, but-none, but-length, above-none, last-of-rest, none-some}
 use Rattle.survey.specs.Survey.{picked, other}
 use Rattle.survey.proofs.Picks.{other-pick}
-use Rattle.settings.specs.Held.{Holds, addresses-of, values-of}
+use Rattle.settings.specs.Held.{addresses-of, values-of}
 use Rattle.settings.proofs.Tables.{setting-at}
 use Rattle.steps.specs.Picked.{picked-steps}
 use Rattle.steps.specs.Copied.{rows, copied}

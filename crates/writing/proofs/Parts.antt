@@ -7,7 +7,7 @@ use native.Mathlib.Omega.{arith}
 use lib.ListN.{length, take, length-append}
 use lib.Dec.{leb}
 use Rattle.rules.specs.Flash.{Step, run}
-use Rattle.rules.specs.Word.{Word, opening-word, done-word, record-word, word-steps}
+use Rattle.rules.specs.Word.{opening-word, done-word, record-word, word-steps}
 use Rattle.rules.specs.Store.{Setting}
 use Rattle.rules.specs.Steps.{copy-steps}
 use Rattle.rules.proofs.Plans.{AllAllowed, allowed-cut, cut-run}

@@ -7,19 +7,19 @@ use native.Mathlib.Omega.{arith}
 use lib.ListN.{length, getD, take, length-take, length-append}
 use lib.Dec.{eqb, leb}
 use borrow.Author.Tests.{eq-eqb, ne-eqb}
-use Rattle.rules.specs.Flash.{Step, run}
+use Rattle.rules.specs.Flash.{run}
 use Rattle.rules.specs.Word.{Word, word, wear-word, word-steps}
-use Rattle.rules.specs.Page.{State, cleared, open₁, open₂, receiving, bad, Page, page}
+use Rattle.rules.specs.Page.{State, bad, Page, page}
 use Rattle.rules.specs.Store.{states, base, used, is-cleared, count}
 use Rattle.rules.specs.Steps.{renew, renewed-wear, add-steps, renewals, unclean, recovery-steps}
-use Rattle.rules.specs.Call.{page-size, page-edition, page-count, pages, cut, wrong-size, store-number, stepped, recover, Stepped, OK}
+use Rattle.rules.specs.Call.{page-edition, page-count, pages, cut, wrong-size, store-number, recover}
 use Rattle.rules.proofs.Truth.{by-cases}
 use Rattle.rules.proofs.Stores.{length-states, count-all}
 use Rattle.rules.proofs.Ready.{size-right, right-sizes}
 use Rattle.rules.proofs.Answers.{stepped-refused, stepped-done}
 use Rattle.ranks.specs.Ranks.{ranks}
 use Rattle.ranks.specs.Places.{taken-places}
-use Rattle.survey.specs.Survey.{spare, spares, picked, neither-at}
+use Rattle.survey.specs.Survey.{spares, picked, neither-at}
 use Rattle.survey.proofs.Picks.{count-spares, unclean-pick}
 use Rattle.steps.specs.Picked.{picked-steps}
 use Rattle.store.specs.declared.Look.{Look}

@@ -13,15 +13,13 @@ use Rattle.rules.specs.Word.{opening-word, done-word, record-word, word-steps}
 use Rattle.rules.specs.Page.{slot-place}
 use Rattle.rules.specs.Store.{Setting, setting, states, is-cleared, active-order, active-index, active-slots, count, settings, held, value, free-slot}
 use Rattle.rules.specs.Steps.{but, copies, copy-steps, append-steps, open-steps, move-steps, write-steps, taken, has-free-slot, is-value}
-use Rattle.rules.specs.Call.{page-size, page-edition, page-count, pages, store-number, write-number, is-unclean, is-held, no-room, wrong-address, then, write}
+use Rattle.rules.specs.Call.{page-edition, page-count, pages, store-number, write-number, is-unclean, is-held, no-room, wrong-address, then, write}
 use Rattle.rules.proofs.Truth.{by-cases, failed}
 use Rattle.rules.proofs.Plans.{AllAllowed, allowed-take}
 use Rattle.rules.proofs.Settings.{by-option, but-length, but-length-held}
 use Rattle.rules.proofs.Held.{held-rising, held-few, value-is}
 use Rattle.rules.proofs.Ready.{size-right, right-sizes, append-allowed, open-allowed, move-allowed, taken-within}
 use Rattle.rules.proofs.Answers.{stepped-refused, stepped-done}
-use Rattle.survey.specs.Survey.{picked, other}
-use Rattle.steps.specs.Picked.{picked-steps}
 use Rattle.steps.specs.Copied.{copied}
 use Rattle.steps.proofs.Copies.{word-steps-length}
 use Rattle.store.specs.declared.Store.{Store}

@@ -7,9 +7,8 @@ use mathlib.Core.List.{List, [], _++_}
 use native.Mathlib.Omega.{arith}
 use denote.Ref.{now}
 use lib.ListN.{length, getD, take, drop}
-use Rattle.rules.specs.Store.{states, base, put-all}
+use Rattle.rules.specs.Store.{put-all}
 use Rattle.rules.specs.Call.{pages}
-use Rattle.ranks.specs.Places.{line}
 use Rattle.settings.specs.Held.{Holds}
 use Rattle.store.specs.Gather.{gathered}
 use Rattle.store.proofs.Opening.{used-few, listed, places-within, places-long}

@@ -2,7 +2,6 @@ use Prim.Native.Nat.{_+_}
 use mathlib.Core.Path.{_≡_, sym, ap, _∙_}
 use mathlib.Core.Option.{none, some}
 use native.Mathlib.Omega.{arith}
-use Rattle.rules.specs.Store.{last-of}
 use Rattle.settings.specs.Held.{as-option}
 use Rattle.writing.proofs.Moving.{count-held, count-new}
 use borrow.Author.Needs.{needs}
