@@ -13,7 +13,7 @@
  *     memmove, memset and memcmp at most, and, as measured on x86-64, no more than 4 KB of stack.
  *
  * AT START-UP
- *   Call istrovell_recover with ISTROVELL_ALL_STEPS, before the first write and after every power failure. It clears away
+ *   Call istrovell_recover, carried to flash as below, before the first write and after every power failure. It clears away
  *   what the failure left, and does nothing where there is nothing to do.
  *     ISTROVELL_OK: go on.
  *     ISTROVELL_NO_STORE, ISTROVELL_DAMAGED: leave the image as it is and tell the user. Format only a device that is
@@ -23,7 +23,8 @@
  * CARRYING THE STEPS TO FLASH
  *   The calls change plain bytes in memory. A call that only reads may be lent the mapped flash. A call that changes the
  *   image is lent a copy in RAM, and the flash driver carries the change over, step by step, in the order of the steps. A
- *   step programs one half-word (two bytes at an even offset, low byte first, that both read 255) or erases one page.
+ *   step programs one half-word (two bytes at an even offset, low byte first, that both read 255) or erases one page. The
+ *   loop below takes two copies of the image in RAM, `start` and `work`.
  *
  *   The allowance shows the steps one at a time. With allowance k a call does the first k of its steps and stops, so step k
  *   is what allowance k changes beyond allowance k - 1, each time from the same image:
@@ -73,12 +74,12 @@ extern "C" {
 enum istrovell_number {
     ISTROVELL_OK = 0,        /* done, or stopped by the allowance */
     ISTROVELL_SIZE = 1,      /* the length is no multiple of 1,024, or not 2 to 32 pages */
-    ISTROVELL_NO_STORE = 2,  /* no page is open: never formatted, or no image of ours */
-    ISTROVELL_DAMAGED = 3,   /* pages contradict each other, none is spare, or more than 192 addresses are held */
-    ISTROVELL_UNCLEAN = 4,   /* a page waits for recovery: recover, then write again */
+    ISTROVELL_NO_STORE = 2,  /* no open page: never formatted, or no image of ours */
+    ISTROVELL_DAMAGED = 3,   /* two used pages of one order, or every page used, or more than 192 addresses held */
+    ISTROVELL_UNCLEAN = 4,   /* a page neither used nor cleared: recover, then write again */
     ISTROVELL_ADDRESS = 5,   /* address 65,535 */
-    ISTROVELL_NO_ROOM = 6,   /* the address is not held, and 192 others are */
-    ISTROVELL_ORDER_END = 7, /* a new page is needed and the order of pages is used up, at 4,194,303 */
+    ISTROVELL_NO_ROOM = 6,   /* the address is not held, and 192 are */
+    ISTROVELL_ORDER_END = 7, /* a new page is needed and the active order is 4,194,303, the last */
     ISTROVELL_NOT_HELD = 8   /* the address is not held */
 };
 
@@ -109,12 +110,12 @@ struct istrovell_pairing {
  * Answers 0 or 1. */
 uint8_t istrovell_format(uint8_t *image, size_t length);
 
-/* Erases each page that is neither in use nor cleared and gives it its wear count, in 3 steps a page. No setting changes.
+/* Erases each page that is neither used nor cleared and programs its wear word, in 3 steps a page. No setting changes.
  * Answers 0 to 3; 0 with finished false if the allowance ended it. */
 struct istrovell_stepped istrovell_recover(uint8_t *image, size_t length, uint16_t allowance);
 
 /* Puts the value at the address. An address that has the value already takes 0 steps; a free slot 2; a new page 4; a move
- * of all settings to the spare page at most 388 + 3 x (pages - 1), that is 481 at 32 pages.
+ * of all settings to the only cleared page at most 388 + 3 x (pages - 1), that is 481 at 32 pages.
  * Answers 0 to 7; an address that has the value already is tested against 1 to 5 only.
  *
  * If power fails in any step, and in any step of the recoveries after it, every other address reads as before, and this

@@ -1,5 +1,5 @@
 #!/usr/bin/env python3
-"""Writes the samples beside this script: example12.bin, the image of document 01's example 12."""
+"""Writes the sample beside this script: example12.bin, the image that README.md explains byte by byte."""
 
 import pathlib
 

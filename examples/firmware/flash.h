@@ -1,4 +1,4 @@
-/* A simulated flash chip with a power switch: document 01, "The flash and how it fails". */
+/* A simulated flash chip with a power switch. Its steps, and how one fails, are those of docs/FORMAT.md. */
 #ifndef FLASH_H
 #define FLASH_H
 

@@ -1,5 +1,5 @@
-/* A handset's life over a flash with a power switch: it is formatted and paired, used until its settings move to the spare
- * page, and power is cut in each step of that move. Ends with status 1 if anything was lost. */
+/* A handset's life over a flash with a power switch: it is formatted and paired, used until its settings move to the only
+ * cleared page, and power is cut in each step of that move. Ends with status 1 if anything was lost. */
 #include "settings.h"
 
 #include <stdio.h>

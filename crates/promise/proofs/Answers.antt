@@ -12,7 +12,7 @@ use Rattle.rules.specs.Page.{page}
 use Rattle.rules.specs.Store.{states, base, used, is-open, used-orders, Setting, last-of, settings, held, value, put-all, count}
 use Rattle.rules.specs.Steps.{unclean, is-value}
 use Rattle.rules.specs.Call.{page-size, page-edition, page-count, pages, cut, wrong-size, no-store, repeats, all-used, damaged, is-unclean, wrong-address, is-held, no-room, order-end, then, store-number, write-number, blank-read-number, read-number, Reading, accepted, or-value, read, OK, UNCLEAN, ADDRESS, NO-ROOM, ORDER-END, NOT-HELD, held-limit}
-use Rattle.rules.proofs.Truth.{failed}
+use Rattle.rules.proofs.Rows.{store-passes, blank-read-goes-on, read-goes-on, WriteFails, write-fails}
 use Rattle.rules.proofs.Stores.{length-states, count-open, orders-used, count-used}
 use Rattle.rules.proofs.Phases.{Pages}
 use Rattle.rules.proofs.Told.{told}
@@ -92,8 +92,7 @@ module _ (J : List Setting) (i : List ℕ) (h : Kept-well J i) where
 
   -- a recovery is accepted
   pub store-ok : store-number i ≡ OK
-  unfolding store-number
-  store-ok = rw (right-size, not-damaged) (rw pages-are (rw (has-store page-edition 253 (h .count) held-limit J (cut page-size (h .count) i) (h .good))))
+  store-ok = store-passes i right-size (rw pages-are (has-store page-edition 253 (h .count) held-limit J (cut page-size (h .count) i) (h .good))) not-damaged
 
 -- the answer of read, by the value that the address has
 unfoldable pub answer : (address : ℕ) → Option ℕ → Reading
@@ -101,38 +100,34 @@ answer a t =
     let number = then (cond (wrong-address a) ADDRESS OK) (cond (is-held t) OK NOT-HELD) in
     record { number = number; value = cond (accepted number) (or-value t 0) 0 }
 
+held-or-not : (a : ℕ) (t : Option ℕ) → let number = then (cond (wrong-address a) ADDRESS OK) (cond (not (is-held t)) NOT-HELD OK) in
+    _≡_ {A = Reading} (record { number = number; value = cond (accepted number) (or-value t 0) 0 }) (answer a t)
+unfolding answer is-held
+held-or-not a none = refl
+held-or-not a (some v) = refl
+
 pub read-is : (J : List Setting) (i : List ℕ) → Kept-well J i → (a : ℕ) → read a i ≡ answer a (last-of a J)
-unfolding read read-number blank-read-number answer then
-read-is J i h a = rw (value-here J i h a, store-ok J i h)
+unfolding read answer then
+read-is J i h a = rw (read-goes-on i a, blank-read-goes-on i a, value-here J i h a, store-ok J i h) (held-or-not a (last-of a J))
 
 -- ---- what the number of a write tells
 
 module _ (J : List Setting) (i : List ℕ) (h : Kept-well J i) (a v : ℕ) (ok : write-number a v i ≡ OK) where
-  after-store : cond (is-unclean (states (pages i))) UNCLEAN (cond (wrong-address a) ADDRESS (cond (is-value (value a (pages i)) v) OK (cond (no-room a (pages i)) NO-ROOM (cond (order-end (pages i)) ORDER-END OK)))) ≡ 0
-  unfolding write-number then
-  after-store = rw (store-ok J i h) at ok
-
-  pub clean-here : is-unclean (states (pages i)) ≡ false
-  clean-here = failed (is-unclean (states (pages i))) 3 _ after-store .0
-
-  after-clean : cond (wrong-address a) ADDRESS (cond (is-value (value a (pages i)) v) OK (cond (no-room a (pages i)) NO-ROOM (cond (order-end (pages i)) ORDER-END OK))) ≡ 0
-  after-clean = failed (is-unclean (states (pages i))) 3 _ after-store .1
+  fails : WriteFails i a v
+  fails = write-fails i a v ok
 
   pub address-right : wrong-address a ≡ false
-  address-right = failed (wrong-address a) 4 _ after-clean .0
+  address-right = fails .address
 
   room-here : is-value (last-of a J) v ≡ false → no-room a (pages i) ≡ false
-  room-here s =
-      let rest = failed (wrong-address a) 4 _ after-clean .1 in
-      let rest′ : cond (no-room a (pages i)) NO-ROOM (cond (order-end (pages i)) ORDER-END OK) ≡ 0 = rw (value-here J i h a, s) at rest in
-      failed (no-room a (pages i)) 5 _ rest′ .0
+  room-here s = fails .room (rw (value-here J i h a) s)
 
   pub accepted-here : is-value (last-of a J) v ≡ false → Accepted page-edition 256 (h .count) held-limit a v J (cut page-size (h .count) i)
   unfolding is-unclean wrong-address no-room is-held
   accepted-here s =
       let F = cut page-size (h .count) i in
       let b = h .good .base-order in
-      let c : not (eqb (count (unclean (base (states (told page-edition F)))) (states (told page-edition F))) 0) ≡ false = rw (pages-are J i h) at clean-here in
+      let c : not (eqb (count (unclean (base (states (told page-edition F)))) (states (told page-edition F))) 0) ≡ false = rw (pages-are J i h) at (fails .clean) in
       let z : count (unclean (base (states (told page-edition F)))) (states (told page-edition F)) ≡ 0 = eqb-true _ 0 (not-false _ c) in
       let far : a < 65535 = leb-false 65535 a address-right in
       record {

@@ -14,16 +14,16 @@ use Rattle.rules.specs.Flash.{Step, program, erase, first, second, offset, aim,
 use Rattle.rules.specs.Word.{Word, word, zeros, check, sound, blank, condition, low16, low24, third, checked, wear-word, number-word, opening-word, done-word, record-word, slot-condition, word-steps, words}
 use Rattle.rules.specs.Page.{State, Page, wear-place, opening-place, done-place, slot-place, wear-part, opening-part, done-part, slots, is-wear, wear-in, is-opening, order-in, is-done, all-blank, state-after-wear, state-by, state, page}
 use Rattle.rules.specs.Store.{Setting, setting, states, order₂, base, used, is-cleared, is-open, order, add-order, used-orders, greatest, active-order, is-active, index-of, active-index, add-page, used-pages, insert, oldest-first, add-record, records, all-records, journal, or-else, last-of, value, put, put-all, settings, held, past, free-slot, slots-at, active-slots, count, index}
-use Rattle.rules.specs.Steps.{renew, renew-all, format-steps, renewed-wear, add-steps, renewals, unclean, append-steps, taken, open-steps, copies, copy-steps, move-steps, has-free-slot, is-value, write-steps}
-use Rattle.rules.specs.Call.{page-size, page-edition, held-limit, OK, cut, page-count, pages, wrong-size, no-store, among, repeats, all-used, damaged, is-unclean, wrong-address, is-held, no-room, order-end, store-number, then, write-number, blank-read-number, read-number, accepted, format, or-value, read, not-held-value, blank-value, digits, lookup}
-use Rattle.rules.proofs.Truth.{by-cases}
+use Rattle.rules.specs.Steps.{Way, stay, append-to, open-at, move-to, way, way-steps, new-page, next-order, fill-steps, other, renew, renew-all, format-steps, renewed-wear, add-steps, renewals, unclean, append-steps, taken, open-steps, copies, copy-steps, move-steps, has-free-slot, is-value, write-steps}
+use Rattle.rules.specs.Call.{first-of, store-rows, blank-read-rows, read-rows, write-rows, page-size, page-edition, held-limit, OK, cut, page-count, pages, wrong-size, no-store, among, repeats, all-used, damaged, is-unclean, wrong-address, is-held, no-room, order-end, store-number, then, write-number, blank-read-number, read-number, accepted, format, or-value, read, not-held-value, blank-value, digits, lookup}
+use Rattle.rules.proofs.Truth.{by-cases, not-both}
 use Rattle.rules.proofs.Bits.{rises-refl}
 use Rattle.rules.proofs.Cut.{cut-length}
 use Rattle.rules.proofs.Laid.{laid, laid-all, within, run-laid}
 use Rattle.rules.proofs.Stores.{taken-at}
 use Rattle.rules.proofs.Settings.{last-of-here, last-of-other}
 use Rattle.promise.specs.Promise.{Left, failing, later, formatted, Recoveries, none as no-more, Cut, write-of, finds}
-use Rattle.promise.specs.Corollaries.{digit-after, code-after, shows, CodeSurvives, the-code-survives, orders-differ, a-page-is-spare, never-over-full, erases, Moves, a-move-wears-all-but-one, another-write-wears-none, new-flash, fresh-store, finds-nothing, not-about-nothing}
+use Rattle.promise.specs.Corollaries.{digit-after, code-after, shows, CodeSurvives, the-code-survives, orders-differ, a-page-is-spare, never-over-full, erases, moves, a-move-wears-all-but-one, another-write-wears-none, new-flash, fresh-store, finds-nothing, not-about-nothing}
 use Rattle.rules.proofs.Told.{told}
 use Rattle.rules.proofs.Active.{some-cleared}
 use Rattle.promise.proofs.Good.{ordered}
@@ -169,19 +169,17 @@ erases-others edition t k (p ∷ ps) l h =
     let n = erases-renew edition k (renewed-wear (p .wear)) (renewals edition (but-one t) (suc k) ps) in
     rw e (omega arith))
 
--- a move, of any pages one of which is taken
-move-erases : (edition a v : ℕ) (ps : List Page) → taken ps < length ps → erases (move-steps edition a v ps) + 1 ≡ length ps
-unfolding move-steps
-move-erases edition a v ps l =
-    let t = taken ps in
-    let o = active-order (states ps) + 1 in
-    let rest = renewals edition (but-one t) 0 ps in
-    let done = word-steps t done-place (done-word o) in
-    let copied = copy-steps t 0 (copies a v ps) in
-    let opened = word-steps t opening-place (opening-word 2 o) in
+-- a move to one of the pages
+move-erases : (edition p o : ℕ) (rs : List Setting) (ps : List Page) → p < length ps → erases (move-steps edition p o rs ps) + 1 ≡ length ps
+unfolding move-steps fill-steps other
+move-erases edition p o rs ps l =
+    let rest = renewals edition (but-one p) 0 ps in
+    let done = word-steps p done-place (done-word o) in
+    let copied = copy-steps p 0 rs in
+    let opened = word-steps p opening-place (opening-word 2 o) in
     let none-yet : erases (opened ++ copied ++ done) ≡ 0 =
-    erases-none (opened ++ copied) done (erases-none opened copied (erases-word t opening-place (opening-word 2 o)) (erases-copies t 0 (copies a v ps))) (erases-word t done-place (done-word o)) in
-    ap (λ (n : ℕ). n + 1) (erases-after (opened ++ copied ++ done) rest none-yet) ∙ erases-others edition t 0 ps (omega arith) (omega arith)
+    erases-none (opened ++ copied) done (erases-none opened copied (erases-word p opening-place (opening-word 2 o)) (erases-copies p 0 rs)) (erases-word p done-place (done-word o)) in
+    ap (λ (n : ℕ). n + 1) (erases-after (opened ++ copied ++ done) rest none-yet) ∙ erases-others edition p 0 ps (omega arith) (omega arith)
 
 taken-within : (ps : List Page) → (count is-cleared (states ps) ≡ 0 → ⊥) → taken ps < length ps
 unfolding taken index
@@ -192,11 +190,19 @@ taken-within ps h =
     let m = length-append (t .front) (t .page ∷ t .rest) in
     omega arith
 
+-- a write that moves is of a new value, and moves to the page that is taken
+move-is : (a v : ℕ) (ps : List Page) → moves (way a v ps) ≡ true → (is-value (value a ps) v ≡ false) × (way a v ps ≡ move-to (taken ps) (next-order ps))
+unfolding way new-page moves
+move-is a v ps m =
+    by-cases (is-value (value a ps) v) (λ e. not-both m (rw e))
+    (λ e. by-cases (has-free-slot ps) (λ f. not-both m (rw (e, f)))
+    (λ f. by-cases (leb 2 (count is-cleared (states ps))) (λ c. not-both m (rw (e, f, c))) (λ c. (e, rw (e, f, c)))))
+
 -- an accepted write that moves finds a cleared page
-move-takes : (J : List Setting) (i : List ℕ) → Kept-well J i → (a v : ℕ) → write-number a v i ≡ OK → Moves a v i → taken (pages i) < length (pages i)
-move-takes J i h a v ok m =
+move-takes : (J : List Setting) (i : List ℕ) → Kept-well J i → (a v : ℕ) → write-number a v i ≡ OK → is-value (value a (pages i)) v ≡ false → taken (pages i) < length (pages i)
+move-takes J i h a v ok new =
     let F = cut page-size (h .count) i in
-    let w = accepted-here J i h a v ok (rw (value-here J i h a) at (m .changes)) in
+    let w = accepted-here J i h a v ok (rw (value-here J i h a) at new) in
     let all = some-cleared page-edition 256 (w .good .base-order) (h .count) (w .good .used-by) F (ordered page-edition 253 (h .count) held-limit J F (w .good)) (w .good .keeps .count) (w .clean) in
     let sp = w .good .spare in
     rw (pages-are J i h) (taken-within (told page-edition F) (λ z. omega arith))
@@ -206,31 +212,26 @@ unfolding pages
 pages-count i = length-map (cut page-size (page-count i) i) (page page-edition) ∙ cut-length page-size (page-count i) i
 
 pub move-wears : a-move-wears-all-but-one
-unfolding write-steps
+unfolding write-steps way-steps
 move-wears i u a v ok m =
     let p = in-use-kept u in
-    let l = move-takes (p .0) i (p .1) a v ok m in
-    rw (m .changes, m .full, lt-leb 2 (count is-cleared (states (pages i))) (m .last-cleared))
-    (move-erases page-edition a v (pages i) l ∙ pages-count i)
+    let w = move-is a v (pages i) m in
+    let l = move-takes (p .0) i (p .1) a v ok (w .0) in
+    rw (w .1) (move-erases page-edition (taken (pages i)) (next-order (pages i)) (copies a v (pages i)) (pages i) l ∙ pages-count i)
 
-append-erases : (a v : ℕ) (ps : List Page) → erases (append-steps a v ps) ≡ 0
-unfolding append-steps
-append-erases a v ps = erases-word (active-index (states ps)) (slot-place (free-slot (active-slots ps))) (record-word a v)
-
-open-erases : (a v : ℕ) (ps : List Page) → erases (open-steps a v ps) ≡ 0
-unfolding open-steps
-open-erases a v ps =
-    let w = opening-word 1 (active-order (states ps) + 1) in
-    erases-none (word-steps (taken ps) opening-place w) (word-steps (taken ps) (slot-place 0) (record-word a v)) (erases-word (taken ps) opening-place w)
-    (erases-word (taken ps) (slot-place 0) (record-word a v))
+-- the other ways
+way-erases : (edition a v : ℕ) (ps : List Page) (w : Way) → moves w ≡ false → erases (way-steps edition a v ps w) ≡ 0
+unfolding way-steps append-steps open-steps moves erases
+way-erases edition a v ps stay m = refl
+way-erases edition a v ps (append-to p k) m = erases-word p (slot-place k) (record-word a v)
+way-erases edition a v ps (open-at p o) m =
+    erases-none (word-steps p opening-place (opening-word 1 o)) (word-steps p (slot-place 0) (record-word a v)) (erases-word p opening-place (opening-word 1 o))
+    (erases-word p (slot-place 0) (record-word a v))
+way-erases edition a v ps (move-to p o) m = not-both refl m
 
 pub others-wear-none : another-write-wears-none
-unfolding write-steps erases
-others-wear-none i a v still =
-    by-cases (is-value (value a (pages i)) v) (λ e. rw e)
-    (λ e. by-cases (has-free-slot (pages i)) (λ f. rw (e, f) (append-erases a v (pages i)))
-    (λ f. by-cases (leb 2 (count is-cleared (states (pages i)))) (λ c. rw (e, f, c) (open-erases a v (pages i)))
-    (λ c. absurd (still (record { changes = e; full = f; last-cleared = leb-false 2 (count is-cleared (states (pages i))) c })))))
+unfolding write-steps
+others-wear-none i a v m = way-erases page-edition a v (pages i) (way a v (pages i)) m
 
 -- ---- a store, and a write whose power fails
 
@@ -261,7 +262,7 @@ record Computed : Type 0 where
   whole-reads : read 5 (with-second 65 20) ≡ finds 65
 
 computed : Computed
-unfolding with-second laid-out laid laid-all offset aim after run zeros check sound blank condition low16 low24 third checked wear-word number-word opening-word record-word slot-condition word-steps words wear-part opening-part done-part slots is-wear wear-in is-opening order-in is-done all-blank state-after-wear state-by state page states order₂ base used is-cleared is-open order add-order used-orders greatest active-order is-active index-of active-index add-page used-pages insert oldest-first add-record records all-records journal or-else last-of value put put-all settings held past free-slot slots-at active-slots count renew renew-all format-steps unclean append-steps has-free-slot is-value write-steps cut page-count pages wrong-size no-store among repeats all-used damaged is-unclean wrong-address is-held no-room order-end store-number then write-number blank-read-number read-number accepted format or-value read bytes-at
+unfolding with-second laid-out laid laid-all offset aim after run zeros check sound blank condition low16 low24 third checked wear-word number-word opening-word record-word slot-condition word-steps words wear-part opening-part done-part slots is-wear wear-in is-opening order-in is-done all-blank state-after-wear state-by state page states order₂ base used is-cleared is-open order add-order used-orders greatest active-order is-active index-of active-index add-page used-pages insert oldest-first add-record records all-records journal or-else last-of value put put-all settings held past free-slot slots-at active-slots count renew renew-all format-steps unclean append-steps has-free-slot is-value write-steps first-of store-rows blank-read-rows read-rows write-rows way way-steps new-page next-order fill-steps other cut page-count pages wrong-size no-store among repeats all-used damaged is-unclean wrong-address is-held no-room order-end store-number then write-number blank-read-number read-number accepted format or-value read bytes-at
 computed = record { lawful = refl; accepted = refl; steps = refl; torn = refl; torn-reads = refl; whole = refl; whole-reads = refl }
 
 -- a failure in the second half of the record

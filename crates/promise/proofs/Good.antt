@@ -13,7 +13,7 @@ use Rattle.rules.specs.Flash.{Step}
 use Rattle.rules.specs.Word.{Word, record-word, opening-word, word-steps}
 use Rattle.rules.specs.Page.{is-wear, Page, page, state, slot-place, opening-place, blank-word, all-blank}
 use Rattle.rules.specs.Store.{states, order, used, is-cleared, greatest, active-order, active-index, active-slots, used-pages, oldest-first, journal, Setting, setting, last-of, put-all, free-slot}
-use Rattle.rules.specs.Steps.{unclean, recovery-steps, append-steps, open-steps, taken, has-free-slot}
+use Rattle.rules.specs.Steps.{next-order, unclean, recovery-steps, append-steps, open-steps, taken, has-free-slot}
 use Rattle.rules.specs.Call.{repeats}
 use Rattle.rules.proofs.Truth.{or-false-left}
 use Rattle.rules.proofs.Slots.{FreeAt, Lawful, all-records-lawful}
@@ -120,11 +120,11 @@ module _ (edition m n L : ℕ) (J : List Setting) (F : Pages) (g : Good edition 
       }
 
   pub append-case : (a v : ℕ) → (a ≡ 65535 → ⊥) → (last-of a J ≡ none → length (put-all [] J) < L) → has-free-slot (told edition F) ≡ true
-      → Turns k (Good edition k n L J) (Good edition k n L (J ++ setting a v ∷ [])) (append-steps a v (told edition F)) F
+      → Turns k (Good edition k n L J) (Good edition k n L (J ++ setting a v ∷ [])) (append-steps (active-index (states (told edition F))) (free-slot (active-slots (told edition F))) a v) F
   unfolding append-steps
   append-case a v ne room free = into (active-free edition m b os F ordered free)
     where
-      into : (hd : Headed m (at-active .here)) × FreeAt (hd .ws) × (free-slot (active-slots (told edition F)) ≡ free-slot (hd .ws)) → Turns k (Good edition k n L J) (Good edition k n L (J ++ setting a v ∷ [])) (append-steps a v (told edition F)) F
+      into : (hd : Headed m (at-active .here)) × FreeAt (hd .ws) × (free-slot (active-slots (told edition F)) ≡ free-slot (hd .ws)) → Turns k (Good edition k n L J) (Good edition k n L (J ++ setting a v ∷ [])) (append-steps (active-index (states (told edition F))) (free-slot (active-slots (told edition F))) a v) F
       into t =
           let hd = t .0 in
           let at = t .1 in
@@ -185,10 +185,10 @@ module _ (edition m′ n L : ℕ) (J : List Setting) (f : Pages) (w : Word) (r :
   abbrev k₄ : ℕ
   k₄ = suc (suc (suc (suc m′)))
 
-  pub open-good : (a v : ℕ) → (a ≡ 65535 → ⊥) → (last-of a J ≡ none → length (put-all [] J) < L) → suc (length (g .used-by)) < n → taken (told edition (f ++ taken-page (suc m′) w ∷ r)) ≡ length f
-      → Turns k₄ (Good edition k₄ n L J) (Good edition k₄ n L (J ++ setting a v ∷ [])) (open-steps a v (told edition (f ++ taken-page (suc m′) w ∷ r))) (f ++ taken-page (suc m′) w ∷ r)
-  unfolding open-steps opened-good
-  open-good a v ne room two place =
+  pub open-good : (a v : ℕ) → (a ≡ 65535 → ⊥) → (last-of a J ≡ none → length (put-all [] J) < L) → suc (length (g .used-by)) < n
+      → Turns k₄ (Good edition k₄ n L J) (Good edition k₄ n L (J ++ setting a v ∷ [])) (open-steps (length f) (next-order (told edition (f ++ taken-page (suc m′) w ∷ r))) a v) (f ++ taken-page (suc m′) w ∷ r)
+  unfolding open-steps next-order opened-good
+  open-good a v ne room two =
       let F = f ++ taken-page (suc m′) w ∷ r in
       let o = next edition (suc m′) n L J f w r g worn in
       let u = under edition (suc m′) n L J f w r g worn in
@@ -197,6 +197,5 @@ module _ (edition m′ n L : ℕ) (J : List Setting) (f : Pages) (w : Word) (r :
       let new = opened-newest edition (suc m′) n (g .base-order) (g .used-by) J f w r o worn u (g .some) (g .keeps) in
       let ran : store-run k₄ (word-steps (length f) opening-place (opening-word 1 o)) F ≡ G = word-run k₄ f r (w ∷ []) (replicate (suc (suc m′)) blank-word) (opening-word 1 o) in
       let last = append-good edition (suc m′) n L J G good a v ne room (length f) 0 f w (opening-word 1 o) blank-word [] (replicate m′ blank-word) r refl refl refl new (replicate-all-blank m′) in
-      rw place
-      (turns-after k₄ (opening-good edition (suc m′) n L J f w r g worn two)
-      (subst (Turns k₄ (Good edition k₄ n L J) (Good edition k₄ n L (J ++ setting a v ∷ [])) (word-steps (length f) (slot-place 0) (record-word a v))) (sym ran) last))
+      turns-after k₄ (opening-good edition (suc m′) n L J f w r g worn two)
+      (subst (Turns k₄ (Good edition k₄ n L J) (Good edition k₄ n L (J ++ setting a v ∷ [])) (word-steps (length f) (slot-place 0) (record-word a v))) (sym ran) last)

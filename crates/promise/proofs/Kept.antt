@@ -14,8 +14,9 @@ use Rattle.rules.specs.Flash.{Step, after, run}
 use Rattle.rules.specs.Word.{Word}
 use Rattle.rules.specs.Page.{Page}
 use Rattle.rules.specs.Store.{states, Setting, last-of, value, count}
-use Rattle.rules.specs.Steps.{format-steps, recovery-steps, write-steps, is-value}
-use Rattle.rules.specs.Call.{page-size, page-edition, held-limit, cut, page-count, pages, wrong-size, is-unclean, write-number, wrong-address, is-held, or-value, then, stepped, write, format, read, Reading, accepted, no-room, order-end, OK, NO-STORE, DAMAGED, UNCLEAN, ADDRESS, NO-ROOM, ORDER-END}
+use Rattle.rules.specs.Steps.{way, way-steps, format-steps, recovery-steps, write-steps, is-value}
+use Rattle.rules.proofs.Rows.{write-goes-on}
+use Rattle.rules.specs.Call.{first-of, page-size, page-edition, held-limit, cut, page-count, pages, wrong-size, is-unclean, write-number, wrong-address, is-held, or-value, then, stepped, write, format, read, Reading, accepted, no-room, order-end, OK, NO-STORE, DAMAGED, UNCLEAN, ADDRESS, NO-ROOM, ORDER-END}
 use Rattle.rules.proofs.Truth.{by-cases, not-both, or-false-left, or-false-right}
 use Rattle.rules.proofs.Cut.{cut-length}
 use Rattle.rules.proofs.Settings.{last-of-here, last-of-other}
@@ -79,7 +80,7 @@ module _ (J : List Setting) (i : List ℕ) (h : Kept-well J i) (a v : ℕ) (ok :
 
   -- a write of the held value has no steps
   no-steps : is-value (last-of a J) v ≡ true → write-of a v i ≡ []
-  unfolding write-steps
+  unfolding write-steps way way-steps
   no-steps e = rw (value-here J i h a, e)
 
   turning : is-value (last-of a J) v ≡ false → Turns 256 (Has page-edition 256 n held-limit (old-values J)) (Has page-edition 256 n held-limit (new-values J a v)) (write-of a v i) (cut page-size n i)
@@ -236,7 +237,7 @@ clean-after J i h =
     rw e (ap not (eq-eqb _ 0 z))
 
 pub mended : recovery-mends
-unfolding write-number then
+unfolding then first-of
 mended i u =
     let k = in-use-kept u in
     let J = k .0 in
@@ -249,7 +250,7 @@ mended i u =
       accepted = store-ok J i h;
       clean = clean;
       still-in-use = recovered u whole;
-      writable = λ x v. rw (ok, clean) (not-these (wrong-address x) (is-value (value x (pages r)) v) (no-room x (pages r)) (order-end (pages r)));
+      writable = λ x v. rw (write-goes-on r x v, ok, clean) (not-these (wrong-address x) (is-value (value x (pages r)) v) (no-room x (pages r)) (order-end (pages r)));
     }
   where
     not-these : (p q s t : Bool) → let n = cond p ADDRESS (cond q OK (cond s NO-ROOM (cond t ORDER-END OK))) in (n ≡ NO-STORE → ⊥) × (n ≡ DAMAGED → ⊥) × (n ≡ UNCLEAN → ⊥)

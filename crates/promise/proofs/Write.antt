@@ -12,7 +12,7 @@ use borrow.Author.Tests.{leb-true, leb-false}
 use Rattle.rules.specs.Word.{Word}
 use Rattle.rules.specs.Page.{is-wear}
 use Rattle.rules.specs.Store.{states, is-cleared, active-order, Setting, setting, settings, value, last-of, put-all, count}
-use Rattle.rules.specs.Steps.{unclean, write-steps, move-steps, open-steps, taken, copies, but, has-free-slot, is-value}
+use Rattle.rules.specs.Steps.{way, way-steps, new-page, next-order, fill-steps, other, unclean, write-steps, move-steps, open-steps, taken, copies, but, has-free-slot, is-value}
 use Rattle.rules.specs.Call.{among, repeats}
 use Rattle.rules.proofs.Truth.{by-cases}
 use Rattle.rules.proofs.Slots.{Lawful, put-all-lawful, but-lawful, lawful-append}
@@ -78,29 +78,29 @@ module _ (edition m′ n L : ℕ) (a v : ℕ) (J : List Setting) (two : 2 ≤ n)
     kept-good : (G : Pages) → Keeps edition k n (g .base-order) (g .used-by) J G → Old G
     kept-good G h = was G (record { base-order = g .base-order; used-by = g .used-by; keeps = h; apart = g .apart; spare = g .spare; some = g .some; few = g .few })
 
-    move-good : taken (told edition (f ++ taken-page m w ∷ r)) ≡ length f → Turns k Old New (move-steps edition a v (told edition (f ++ taken-page m w ∷ r))) (f ++ taken-page m w ∷ r)
-    unfolding move-steps copies settings
-    move-good place =
+    move-good : let ps = told edition (f ++ taken-page m w ∷ r) in Turns k Old New (move-steps edition (length f) (next-order ps) (copies a v ps) ps) (f ++ taken-page m w ∷ r)
+    unfolding move-steps fill-steps other next-order copies settings
+    move-good =
         let F = f ++ taken-page m w ∷ r in
         let o = active-order (states (told edition F)) + 1 in
         let fits : length copied ≤ m = (let x = copies-length a v J L (g .few) room in omega arith) in
-        rw (place, journal-is edition m n L J F g)
+        rw (journal-is edition m n L J F g)
         (turns-map k kept-good (moved-good o) (move-turns edition m n (g .base-order) (g .used-by) J f w r o worn (good-under edition m n L J F g) (g .some) (g .keeps) copied copied-lawful fits))
 
   -- the page that is taken stands between the others
   module _ (f : Pages) (w : Word) (r : Pages) (h : Accepted edition k n L a v J (f ++ taken-page m w ∷ r)) (worn : is-wear edition w ≡ true) (place : taken (told edition (f ++ taken-page m w ∷ r)) ≡ length f) where
-    open-accepted : leb 2 (count is-cleared (states (told edition (f ++ taken-page m w ∷ r)))) ≡ true → Turns k Old New (open-steps a v (told edition (f ++ taken-page m w ∷ r))) (f ++ taken-page m w ∷ r)
+    open-accepted : let ps = told edition (f ++ taken-page m w ∷ r) in leb 2 (count is-cleared (states ps)) ≡ true → Turns k Old New (open-steps (taken ps) (next-order ps) a v) (f ++ taken-page m w ∷ r)
     open-accepted c =
         let all = some-cleared edition k (h .good .base-order) n (h .good .used-by) (f ++ taken-page m w ∷ r) (ordered edition m n L J (f ++ taken-page m w ∷ r) (h .good)) (h .good .keeps .count) (h .clean) in
         let l = leb-true 2 (count is-cleared (states (told edition (f ++ taken-page m w ∷ r)))) c in
-        turns-map k was is (open-good edition m′ n L J f w r (h .good) worn a v (h .address) (h .room) (omega arith) place)
+        rw place (turns-map k was is (open-good edition m′ n L J f w r (h .good) worn a v (h .address) (h .room) (omega arith)))
 
-    move-accepted : Turns k Old New (move-steps edition a v (told edition (f ++ taken-page m w ∷ r))) (f ++ taken-page m w ∷ r)
-    move-accepted = move-good f w r (h .good) worn (h .address) (h .room) place
+    move-accepted : let ps = told edition (f ++ taken-page m w ∷ r) in Turns k Old New (move-steps edition (taken ps) (next-order ps) (copies a v ps) ps) (f ++ taken-page m w ∷ r)
+    move-accepted = rw place (move-good f w r (h .good) worn (h .address) (h .room))
 
   -- an accepted write that has steps
   pub write-turns : (F : Pages) → Accepted edition k n L a v J F → is-value (last-of a J) v ≡ false → Turns k Old New (write-steps edition a v (told edition F)) F
-  unfolding write-steps value
+  unfolding write-steps way way-steps new-page value
   write-turns F h fresh =
       let g = h .good in
       let all = some-cleared edition k (g .base-order) n (g .used-by) F (ordered edition m n L J F g) (g .keeps .count) (h .clean) in
@@ -114,6 +114,6 @@ module _ (edition m′ n L : ℕ) (a v : ℕ) (J : List Setting) (two : 2 ≤ n)
       (λ s.
       rw s
       (by-cases (leb 2 (count is-cleared (states (told edition F))))
-      (λ c. rw c (subst⁻¹ (λ (G : Pages). Turns k Old New (open-steps a v (told edition G)) G) (t .form)
+      (λ c. rw c (subst⁻¹ (λ (G : Pages). Turns k Old New (open-steps (taken (told edition G)) (next-order (told edition G)) a v) G) (t .form)
       (open-accepted (t .front) (t .first) (t .rest) h′ (t .worn) p′ (subst (λ (G : Pages). leb 2 (count is-cleared (states (told edition G))) ≡ true) (t .form) c))))
-      (λ c. rw c (subst⁻¹ (λ (G : Pages). Turns k Old New (move-steps edition a v (told edition G)) G) (t .form) (move-accepted (t .front) (t .first) (t .rest) h′ (t .worn) p′))))))
+      (λ c. rw c (subst⁻¹ (λ (G : Pages). Turns k Old New (move-steps edition (taken (told edition G)) (next-order (told edition G)) (copies a v (told edition G)) (told edition G)) G) (t .form) (move-accepted (t .front) (t .first) (t .rest) h′ (t .worn) p′))))))

@@ -2,13 +2,13 @@
 use Prim.Native.Nat.{ℕ, suc, _+_, _≤_, _<_}
 use mathlib.Core.Path.{_≡_}
 use mathlib.Core.Logic.{_⊎_}
-use mathlib.Core.Bool.{false, cond, not}
+use mathlib.Core.Bool.{Bool, true, false, cond, not}
 use mathlib.Core.List.{List, [], _∷_}
 use lib.ListN.{replicate}
 use lib.Dec.{eqb}
 use Rattle.rules.specs.Flash.{Step, program, erase, bytes-at}
 use Rattle.rules.specs.Store.{states, base, used-orders, is-cleared, count, held, value}
-use Rattle.rules.specs.Steps.{has-free-slot, is-value}
+use Rattle.rules.specs.Steps.{Way, stay, append-to, open-at, move-to, way}
 use Rattle.rules.specs.Call.{held-limit, page-count, pages, among, repeats, all-used, write-number, OK, NOT-HELD, Reading, Pairing, read, format, blank-value, lookup}
 use Rattle.promise.specs.Promise.{InUse, Cut, finds, write-of}
 
@@ -45,23 +45,24 @@ a-page-is-spare = (i : List ℕ) → InUse i → all-used (states (pages i)) ≡
 abbrev pub never-over-full : Type 0
 never-over-full = (i : List ℕ) → InUse i → held (pages i) ≤ held-limit
 
--- "How much does a write wear the flash?" A move, that is a write of a new value where there is no free slot and no two pages
--- are cleared, erases every page but the one that it moves to; any other write erases none.
+-- "How much does a write wear the flash?" A move erases every page but the one that it moves to; any other write erases none.
 unfoldable pub erases : List Step → ℕ
 erases [] = 0
 erases (program p w h low high ∷ ss) = erases ss
 erases (erase p ∷ ss) = suc (erases ss)
 
-pub record Moves (a v : ℕ) (i : List ℕ) : Type 0 where
-  pub changes : is-value (value a (pages i)) v ≡ false
-  pub full : has-free-slot (pages i) ≡ false
-  pub last-cleared : count is-cleared (states (pages i)) < 2
+unfoldable pub moves : Way → Bool
+moves stay = false
+moves (append-to p k) = false
+moves (open-at p o) = false
+moves (move-to p o) = true
 
 abbrev pub a-move-wears-all-but-one : Type 0
-a-move-wears-all-but-one = (i : List ℕ) → InUse i → (a v : ℕ) → write-number a v i ≡ OK → Moves a v i → erases (write-of a v i) + 1 ≡ page-count i
+a-move-wears-all-but-one =
+    (i : List ℕ) → InUse i → (a v : ℕ) → write-number a v i ≡ OK → moves (way a v (pages i)) ≡ true → erases (write-of a v i) + 1 ≡ page-count i
 
 abbrev pub another-write-wears-none : Type 0
-another-write-wears-none = (i : List ℕ) (a v : ℕ) → (Moves a v i → ⊥) → erases (write-of a v i) ≡ 0
+another-write-wears-none = (i : List ℕ) (a v : ℕ) → moves (way a v (pages i)) ≡ false → erases (write-of a v i) ≡ 0
 
 -- "Is there such a store at all?" Two freshly formatted pages are one, and accept the write of 65 at 5. A failure in its second
 -- step, the second half of the record in slot 0 of page 0, may leave the record torn, as 05 00 43 14, and 5 is not held, as before;

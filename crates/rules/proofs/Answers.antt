@@ -11,7 +11,8 @@ use borrow.Author.Tests.{le-leb, lt-leb, eq-eqb, ne-eqb}
 use Rattle.rules.specs.Flash.{Step, run}
 use Rattle.rules.specs.Store.{states, value}
 use Rattle.rules.specs.Steps.{format-steps, is-value}
-use Rattle.rules.specs.Call.{page-size, page-edition, page-count, pages, wrong-size, store-number, then, write-number, blank-read-number, read-number, is-unclean, wrong-address, is-held, no-room, order-end, accepted, format, stepped, write, read, or-value, blank-value, blank-read, digits, among, lookup, OK, SIZE, ADDRESS, NOT-HELD, UNCLEAN, NO-ROOM, ORDER-END}
+use Rattle.rules.proofs.Rows.{blank-read-goes-on, read-goes-on, write-more, write-goes-on}
+use Rattle.rules.specs.Call.{first-of, page-size, page-edition, page-count, pages, wrong-size, store-number, then, write-number, blank-read-number, read-number, is-unclean, wrong-address, is-held, no-room, order-end, accepted, format, stepped, write, read, or-value, blank-value, blank-read, digits, among, lookup, OK, SIZE, ADDRESS, NOT-HELD, UNCLEAN, NO-ROOM, ORDER-END}
 
 -- ---- numbers
 
@@ -50,39 +51,41 @@ format-done i w = rw w
 
 module _ (i : List ℕ) (a : ℕ) where
   pub read-refused : (store-number i ≡ 0 → ⊥) → read a i ≡ record { number = store-number i; value = 0 }
-  unfolding read read-number blank-read-number
+  unfolding read
   read-refused h =
-      let e : then (then (store-number i) (cond (wrong-address a) ADDRESS OK)) (cond (is-held (value a (pages i))) OK NOT-HELD) ≡ store-number i =
-      ap (λ (n : ℕ). then n (cond (is-held (value a (pages i))) OK NOT-HELD)) (then-refused (store-number i) (cond (wrong-address a) ADDRESS OK) h) ∙ then-refused (store-number i) _ h in
-      rw (e, not-accepted (store-number i) h)
+      let e : blank-read-number a i ≡ store-number i = blank-read-goes-on i a ∙ then-refused (store-number i) _ h in
+      let f : read-number a i ≡ store-number i = read-goes-on i a ∙ rw e (then-refused (store-number i) _ h) in
+      rw (f, not-accepted (store-number i) h)
 
   module _ (ok : store-number i ≡ 0) where
     pub read-last : a ≡ 65535 → read a i ≡ record { number = ADDRESS; value = 0 }
-    unfolding read read-number blank-read-number then accepted
-    read-last e = rw (ok, last-address a e)
+    unfolding read then accepted
+    read-last e = rw (read-goes-on i a, blank-read-goes-on i a, ok, last-address a e)
 
     pub read-found : (v : ℕ) → a < 65535 → value a (pages i) ≡ some v → read a i ≡ record { number = OK; value = v }
-    unfolding read read-number blank-read-number then accepted is-held or-value
-    read-found v l e = rw (ok, other-address a l, e)
+    unfolding read then accepted is-held or-value
+    read-found v l e = rw (read-goes-on i a, blank-read-goes-on i a, ok, other-address a l, e)
 
     pub read-nothing : a < 65535 → value a (pages i) ≡ none → read a i ≡ record { number = NOT-HELD; value = 0 }
-    unfolding read read-number blank-read-number then accepted is-held or-value
-    read-nothing l e = rw (ok, other-address a l, e)
+    unfolding read then accepted is-held or-value
+    read-nothing l e = rw (read-goes-on i a, blank-read-goes-on i a, ok, other-address a l, e)
 
   -- ---- blank read
 
   pub blank-read-refused : (store-number i ≡ 0 → ⊥) → blank-read a i ≡ record { number = store-number i; value = 0 }
-  unfolding blank-read blank-read-number
-  blank-read-refused h = rw (then-refused (store-number i) (cond (wrong-address a) ADDRESS OK) h, not-accepted (store-number i) h)
+  unfolding blank-read
+  blank-read-refused h =
+      let e : blank-read-number a i ≡ store-number i = blank-read-goes-on i a ∙ then-refused (store-number i) _ h in
+      rw (e, not-accepted (store-number i) h)
 
   module _ (ok : store-number i ≡ 0) where
     pub blank-read-last : a ≡ 65535 → blank-read a i ≡ record { number = ADDRESS; value = 0 }
-    unfolding blank-read blank-read-number then accepted
-    blank-read-last e = rw (ok, last-address a e)
+    unfolding blank-read then accepted
+    blank-read-last e = rw (blank-read-goes-on i a, ok, last-address a e)
 
     pub blank-read-found : a < 65535 → blank-read a i ≡ record { number = OK; value = blank-value a i }
-    unfolding blank-read blank-read-number then accepted
-    blank-read-found l = rw (ok, other-address a l)
+    unfolding blank-read then accepted
+    blank-read-found l = rw (blank-read-goes-on i a, ok, other-address a l)
 
 -- ---- lookup
 
@@ -108,33 +111,35 @@ module _ (number n : ℕ) (ss : List Step) (i : List ℕ) where
 -- the number of a write, test by test
 module _ (a v : ℕ) (i : List ℕ) where
   pub write-store : (store-number i ≡ 0 → ⊥) → write-number a v i ≡ store-number i
-  unfolding write-number
-  write-store h = then-refused (store-number i) _ h
+  write-store h = write-goes-on i a v ∙ then-refused (store-number i) _ h
 
   module _ (ok : store-number i ≡ 0) where
+    behind : write-number a v i ≡ first-of (write-more i a v)
+    behind = write-goes-on i a v ∙ then-ok (store-number i) _ ok
+
     pub write-unclean : is-unclean (states (pages i)) ≡ true → write-number a v i ≡ UNCLEAN
-    unfolding write-number then
-    write-unclean u = rw (ok, u)
+    unfolding first-of
+    write-unclean u = behind ∙ rw u
 
     module _ (clean : is-unclean (states (pages i)) ≡ false) where
       pub write-last : a ≡ 65535 → write-number a v i ≡ ADDRESS
-      unfolding write-number then
-      write-last e = rw (ok, clean, last-address a e)
+      unfolding first-of
+      write-last e = behind ∙ rw (clean, last-address a e)
 
       module _ (far : a < 65535) where
         pub write-same : is-value (value a (pages i)) v ≡ true → write-number a v i ≡ OK
-        unfolding write-number then
-        write-same e = rw (ok, clean, other-address a far, e)
+        unfolding first-of
+        write-same e = behind ∙ rw (clean, other-address a far, e)
 
         module _ (new : is-value (value a (pages i)) v ≡ false) where
           pub write-full : no-room a (pages i) ≡ true → write-number a v i ≡ NO-ROOM
-          unfolding write-number then
-          write-full e = rw (ok, clean, other-address a far, new, e)
+          unfolding first-of
+          write-full e = behind ∙ rw (clean, other-address a far, new, e)
 
           pub write-end : no-room a (pages i) ≡ false → order-end (pages i) ≡ true → write-number a v i ≡ ORDER-END
-          unfolding write-number then
-          write-end e f = rw (ok, clean, other-address a far, new, e, f)
+          unfolding first-of
+          write-end e f = behind ∙ rw (clean, other-address a far, new, e, f)
 
           pub write-ok : no-room a (pages i) ≡ false → order-end (pages i) ≡ false → write-number a v i ≡ OK
-          unfolding write-number then
-          write-ok e f = rw (ok, clean, other-address a far, new, e, f)
+          unfolding first-of
+          write-ok e f = behind ∙ rw (clean, other-address a far, new, e, f)

@@ -14,6 +14,7 @@ pub mod Stores
 pub mod Active
 pub mod Building
 pub mod Renewing
+pub mod Rows
 pub mod Ready
 pub mod Held
 pub mod Answers

@@ -1,14 +1,13 @@
 -- The order of a move: nothing is erased until the done word is programmed. Assumes nothing.
-use Prim.Native.Nat.{ℕ, suc, _+_}
+use Prim.Native.Nat.{ℕ, suc}
 use mathlib.Core.Path.{_≡_, refl, sym, ap, _∙_}
-use mathlib.Core.Bool.{Bool, not}
+use mathlib.Core.Bool.{Bool}
 use mathlib.Core.List.{List, [], _∷_, _++_, append-nil, append-assoc}
-use lib.Dec.{eqb}
 use Rattle.rules.specs.Flash.{Step, program, erase}
 use Rattle.rules.specs.Word.{Word, word, opening-word, done-word, record-word, word-steps}
 use Rattle.rules.specs.Page.{State, Page, opening-place, done-place, slot-place}
-use Rattle.rules.specs.Store.{states, active-order, Setting, setting}
-use Rattle.rules.specs.Steps.{renew, add-steps, renewals, taken, copies, copy-steps, move-steps}
+use Rattle.rules.specs.Store.{Setting, setting}
+use Rattle.rules.specs.Steps.{renew, add-steps, renewals, other, copy-steps, fill-steps, move-steps}
 use Rattle.rules.proofs.Truth.{by-cases}
 
 -- the steps before the first erase
@@ -16,13 +15,6 @@ unfoldable pub until-erase : List Step → List Step
 until-erase [] = []
 until-erase (program p w h low high ∷ ss) = program p w h low high ∷ until-erase ss
 until-erase (erase p ∷ ss) = []
-
--- the steps that make the new page: its opening word, the copies, its done word
-unfoldable pub making : (address value : ℕ) → List Page → List Step
-making a v ps =
-    word-steps (taken ps) opening-place (opening-word 2 (active-order (states ps) + 1))
-    ++ copy-steps (taken ps) 0 (copies a v ps)
-    ++ word-steps (taken ps) done-place (done-word (active-order (states ps) + 1))
 
 -- a list of steps without an erase
 abbrev NoErase : List Step → Type 0
@@ -46,15 +38,13 @@ unfolding until-erase renewals add-steps renew
 renewals-erase edition picks k [] = refl
 renewals-erase edition picks k (p ∷ ps) = by-cases (picks k (p .state)) (λ e. rw e) (λ e. rw e (renewals-erase edition picks (suc k) ps))
 
-pub done-before-erase : (edition a v : ℕ) (ps : List Page) → until-erase (move-steps edition a v ps) ≡ making a v ps
-unfolding move-steps making
-done-before-erase edition a v ps =
-    let t = taken ps in
-    let o = active-order (states ps) + 1 in
-    let opening = word-steps t opening-place (opening-word 2 o) in
-    let copied = copy-steps t 0 (copies a v ps) in
-    let done = word-steps t done-place (done-word o) in
-    let made = none-then (opening ++ copied) done (none-then opening copied (word-none t opening-place (opening-word 2 o)) (copies-none t 0 (copies a v ps))) (word-none t done-place (done-word o)) in
-    made (renewals edition (λ k s. not (eqb k t)) 0 ps)
-    ∙ ap (λ (ss : List Step). opening ++ copied ++ done ++ ss) (renewals-erase edition (λ k s. not (eqb k t)) 0 ps)
+pub done-before-erase : (edition p o : ℕ) (rs : List Setting) (ps : List Page) → until-erase (move-steps edition p o rs ps) ≡ fill-steps p o rs
+unfolding move-steps fill-steps
+done-before-erase edition p o rs ps =
+    let opening = word-steps p opening-place (opening-word 2 o) in
+    let done = word-steps p done-place (done-word o) in
+    let copied = copy-steps p 0 rs in
+    let opened = none-then opening copied (word-none p opening-place (opening-word 2 o)) (copies-none p 0 rs) in
+    none-then (opening ++ copied) done opened (word-none p done-place (done-word o)) (renewals edition (other p) 0 ps)
+    ∙ ap (λ (ss : List Step). opening ++ copied ++ done ++ ss) (renewals-erase edition (other p) 0 ps)
     ∙ append-nil (opening ++ copied ++ done)

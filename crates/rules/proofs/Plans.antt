@@ -13,6 +13,7 @@ use Rattle.rules.specs.Call.{cut}
 use Rattle.rules.proofs.Shape.{Within}
 use Rattle.rules.proofs.Cut.{drop-sets-above, drop-sets-below, cut-length, cut-page, cut-page-length, cut-after, length-after, page-within, page-bytes-length, words-at}
 use Rattle.rules.proofs.Phases.{Pages, BlankHalf, Fits, Through, end, step, store-run}
+unfoldable pub use Rattle.rules.specs.Flash.{AllAllowed}
 
 -- ---- runs
 
@@ -33,11 +34,6 @@ pub cut-run : (size n : ℕ) (xs ys : List Step) (i : List ℕ) → run size (ta
 cut-run size n xs ys i = ap (λ (ss : List Step). run size ss i) (take-append n xs ys) ∙ run-append size (take n xs) (take (n - length xs) ys) i
 
 -- ---- steps that may be done
-
--- each step may be done when its turn comes
-unfoldable pub AllAllowed : (size : ℕ) → List Step → List ℕ → Type 0
-AllAllowed size [] i = Unit {0}
-AllAllowed size (s ∷ ss) i = Allowed size s i × AllAllowed size ss (after size s i)
 
 pub allowed-split : (size : ℕ) (xs ys : List Step) (i : List ℕ) → AllAllowed size (xs ++ ys) i → AllAllowed size xs i × AllAllowed size ys (run size xs i)
 unfolding AllAllowed run

@@ -10,12 +10,13 @@ use lib.ListN.{length, length-append, length-map, drop}
 use lib.Dec.{eqb, leb, ltb}
 use borrow.Author.Tests.{eqb-true, eqb-false, eq-eqb, ltb-false, leb-true, leb-false, le-leb, not-false}
 use Rattle.rules.specs.Flash.{Step}
-use Rattle.rules.specs.Word.{Word, word-steps, record-word, opening-word, done-word}
-use Rattle.rules.specs.Page.{State, cleared, open₁, open₂, receiving, bad, page, blank-word, slot-place, opening-place, done-place}
+use Rattle.rules.specs.Word.{Word, word-steps, record-word, opening-word}
+use Rattle.rules.specs.Page.{State, cleared, open₁, open₂, receiving, bad, page, blank-word, slot-place, opening-place}
 use Rattle.rules.specs.Store.{states, order₂, base, used, is-open, is-cleared, used-orders, used-pages, active-order, active-index, free-slot, active-slots, count, Setting}
-use Rattle.rules.specs.Steps.{format-steps, append-steps, open-steps, taken, copy-steps, has-free-slot}
+use Rattle.rules.specs.Steps.{format-steps, append-steps, open-steps, fill-steps, taken, next-order, has-free-slot}
 use Rattle.rules.specs.Call.{page-size, page-edition, page-count, cut, pages, wrong-size, no-store, repeats, all-used, damaged, is-unclean, store-number, OK}
-use Rattle.rules.proofs.Truth.{failed, by-cases, or-false-left, or-false-right}
+use Rattle.rules.proofs.Rows.{store-fails}
+use Rattle.rules.proofs.Truth.{by-cases, or-false-left, or-false-right}
 use Rattle.rules.proofs.Cut.{cut-length, cut-all-length}
 use Rattle.rules.proofs.Phases.{Pages, Through}
 use Rattle.rules.proofs.Plans.{AllAllowed, through-allowed}
@@ -118,16 +119,13 @@ some-used ss h =
 
 module _ (i : List ℕ) (ok : store-number i ≡ OK) where
   pub size-right : wrong-size i ≡ false
-  unfolding store-number
-  size-right = failed (wrong-size i) 0 _ ok .0
+  size-right = store-fails i ok .0
 
   pub stored : no-store (pages i) ≡ false
-  unfolding store-number
-  stored = failed (no-store (pages i)) 1 _ (failed (wrong-size i) 0 _ ok .1) .0
+  stored = store-fails i ok .1
 
   pub undamaged : damaged (pages i) ≡ false
-  unfolding store-number
-  undamaged = failed (damaged (pages i)) 2 _ (failed (no-store (pages i)) 1 _ (failed (wrong-size i) 0 _ ok .1) .1) .0
+  undamaged = store-fails i ok .2
 
   abbrev pub words-of : Pages
   words-of = cut page-size (page-count i) i
@@ -156,18 +154,18 @@ module _ (i : List ℕ) (ok : store-number i ≡ OK) where
   allowed : (ss : List Step) → Through 256 Any ss words-of → AllAllowed 1024 ss i
   allowed ss t = through-allowed 256 (page-count i) ss i t (sizes .sized)
 
-  pub append-allowed : (a v : ℕ) → has-free-slot (pages i) ≡ true → AllAllowed 1024 (append-steps a v (pages i)) i
+  pub append-allowed : (a v : ℕ) → has-free-slot (pages i) ≡ true → AllAllowed 1024 (append-steps (active-index (states (pages i))) (free-slot (active-slots (pages i))) a v) i
   unfolding pages append-steps
   append-allowed a v free = into (active-free page-edition 253 base-of orders-of words-of ordered free)
     where
-      into : (hd : Headed 253 (at-active page-edition 256 base-of orders-of words-of ordered .here)) × FreeAt (hd .ws) × (free-slot (active-slots (told page-edition words-of)) ≡ free-slot (hd .ws)) → AllAllowed 1024 (append-steps a v (pages i)) i
+      into : (hd : Headed 253 (at-active page-edition 256 base-of orders-of words-of ordered .here)) × FreeAt (hd .ws) × (free-slot (active-slots (told page-edition words-of)) ≡ free-slot (hd .ws)) → AllAllowed 1024 (append-steps (active-index (states (pages i))) (free-slot (active-slots (pages i))) a v) i
       into t =
           let hd = t .0 in
           let at = t .1 in
           let p = at-active page-edition 256 base-of orders-of words-of ordered in
           let form : words-of ≡ p .front ++ (hd .x ∷ hd .y ∷ hd .z ∷ (at .front ++ blank-word ∷ at .rest)) ∷ p .rest =
           p .form ∙ ap (λ (q : List Word). p .front ++ q ∷ p .rest) (hd .form ∙ ap (λ (ws : List Word). hd .x ∷ hd .y ∷ hd .z ∷ ws) (at .form)) in
-          allowed (append-steps a v (pages i))
+          allowed (append-steps (active-index (states (pages i))) (free-slot (active-slots (pages i))) a v)
           (rw (active-place page-edition 256 base-of orders-of words-of ordered, t .2 ∙ sym (at .place))
           (subst (Through 256 Any (word-steps (length (p .front)) (slot-place (length (at .front))) (record-word a v))) (sym form)
           (append-any 256 (p .front) (hd .x) (hd .y) (hd .z) (at .front) (at .rest) (p .rest) a v)))
@@ -207,26 +205,24 @@ module _ (i : List ℕ) (ok : store-number i ≡ OK) where
     unfolding pages
     taking = let c = cleared-there in let s = one-spare in takes page-edition 253 words-of (ordered .long) (λ z. omega arith)
 
-    pub open-allowed : (a v : ℕ) → AllAllowed 1024 (open-steps a v (pages i)) i
-    unfolding pages open-steps
+    pub open-allowed : (a v : ℕ) → AllAllowed 1024 (open-steps (taken (pages i)) (next-order (pages i)) a v) i
+    unfolding pages open-steps next-order
     open-allowed a v =
         let t = taking in
         let o = active-order (states (pages i)) + 1 in
-        allowed (open-steps a v (pages i))
+        allowed (open-steps (taken (pages i)) (next-order (pages i)) a v)
         (rw (t .place)
         (subst (Through 256 Any (word-steps (length (t .front)) opening-place (opening-word 1 o) ++ word-steps (length (t .front)) (slot-place 0) (record-word a v))) (sym (t .form))
         (open-any 256 252 (t .front) (t .first) (t .rest) o a v)))
 
-    pub move-allowed : (cs : List Setting) → length cs ≤ 253
-        → AllAllowed 1024 (word-steps (taken (pages i)) opening-place (opening-word 2 (active-order (states (pages i)) + 1)) ++ copy-steps (taken (pages i)) 0 cs ++ word-steps (taken (pages i)) done-place (done-word (active-order (states (pages i)) + 1))) i
-    unfolding pages
+    pub move-allowed : (cs : List Setting) → length cs ≤ 253 → AllAllowed 1024 (fill-steps (taken (pages i)) (next-order (pages i)) cs) i
+    unfolding pages fill-steps next-order
     move-allowed cs h =
         let t = taking in
         let o = active-order (states (pages i)) + 1 in
-        allowed _
+        allowed (fill-steps (taken (pages i)) (next-order (pages i)) cs)
         (rw (t .place)
-        (subst (Through 256 Any (word-steps (length (t .front)) opening-place (opening-word 2 o) ++ copy-steps (length (t .front)) 0 cs ++ word-steps (length (t .front)) done-place (done-word o))) (sym (t .form))
-        (move-any 256 253 (t .front) (t .first) (t .rest) o cs h)))
+        (subst (Through 256 Any (fill-steps (length (t .front)) o cs)) (sym (t .form)) (move-any 256 253 (t .front) (t .first) (t .rest) o cs h)))
 
     pub taken-within : taken (pages i) < page-count i
     unfolding pages

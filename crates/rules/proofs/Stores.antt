@@ -14,6 +14,7 @@ use Rattle.rules.specs.Steps.{unclean}
 use Rattle.rules.specs.Call.{among, repeats}
 use Rattle.rules.proofs.Truth.{is-false, by-cases, not-both, or-first, or-second, or-false-left, or-false-right}
 use Rattle.rules.proofs.Pages.{Fades}
+unfoldable pub use Rattle.rules.specs.Store.{Under}
 
 -- ---- one part after the other
 
@@ -219,11 +220,6 @@ below-by m (p ∷ ps) h t =
   where
     lt-of : (m o : ℕ) → o ≤ m → (m ≡ o → ⊥) → o < m
     lt-of m o l ne = omega arith
-
--- every number of a list is below m
-unfoldable pub Under : ℕ → List ℕ → Type 0
-Under m [] = Unit {0}
-Under m (o ∷ os) = (o < m) × Under m os
 
 pub upto-under : (m : ℕ) (os : List ℕ) → UpTo m os → Under (m + 1) os
 unfolding UpTo Under

@@ -1,7 +1,7 @@
 -- 01, "What each call does" and "Answers by number": the whole outcome of each call, accepted or refused.
 use Prim.Native.Nat.{ℕ, zero, suc, _+_, _*_, _/_, _%_}
 use mathlib.Core.Bool.{Bool, true, false, cond, not, _&&_, _||_}
-use mathlib.Core.List.{List, [], _∷_, map}
+use mathlib.Core.List.{List, [], _∷_, _++_, map}
 use mathlib.Core.Option.{Option, none, some}
 use lib.ListN.{length, take, drop}
 use lib.Dec.{eqb, leb, ltb}
@@ -107,32 +107,51 @@ no-room a ps = not (is-held (value a ps)) && leb held-limit (held ps)
 unfoldable pub order-end : List Page → Bool
 order-end ps = not (has-free-slot ps) && eqb (active-order (states ps)) order-limit
 
--- "Tests go in this order." Format gives 1 only; recovery, blank read and lookup start with 1 to 3.
-unfoldable pub store-number : List ℕ → ℕ
-store-number i =
-    cond (wrong-size i) SIZE
-    (cond (no-store (pages i)) NO-STORE
-    (cond (damaged (pages i)) DAMAGED OK))
+-- A row of the table: its number, and whether it is to be given.
+pub data Row : Type 0 where
+  row : (number : ℕ) (given : Bool) → Row
+
+-- "Tests go in this order": the first row whose test holds gives the number, and OK is given if there is none.
+unfoldable pub first-of : List Row → ℕ
+first-of [] = OK
+first-of (row n t ∷ rows) = cond t n (first-of rows)
 
 unfoldable pub then : ℕ → ℕ → ℕ
 then zero next = next
 then (suc n) next = suc n
 
--- "A write of the held value is tested against 1 to 5 only."
+-- "Format gives 1 only; recovery 1 to 3", and so does lookup; "blank read also 5"; "read 1, 2, 3, 5, 8"
+unfoldable pub store-rows : List ℕ → List Row
+store-rows i = row SIZE (wrong-size i) ∷ row NO-STORE (no-store (pages i)) ∷ row DAMAGED (damaged (pages i)) ∷ []
+
+unfoldable pub blank-read-rows : (address : ℕ) → List ℕ → List Row
+blank-read-rows a i = store-rows i ++ (row ADDRESS (wrong-address a) ∷ [])
+
+unfoldable pub read-rows : (address : ℕ) → List ℕ → List Row
+read-rows a i = blank-read-rows a i ++ (row NOT-HELD (not (is-held (value a (pages i)))) ∷ [])
+
+-- "write 1 to 7. A write of the held value is tested against 1 to 5 only": a row of OK ends the table.
+unfoldable pub write-rows : (address value : ℕ) → List ℕ → List Row
+write-rows a v i =
+    store-rows i
+    ++ (row UNCLEAN (is-unclean (states (pages i)))
+    ∷ row ADDRESS (wrong-address a)
+    ∷ row OK (is-value (value a (pages i)) v)
+    ∷ row NO-ROOM (no-room a (pages i))
+    ∷ row ORDER-END (order-end (pages i))
+    ∷ [])
+
+unfoldable pub store-number : List ℕ → ℕ
+store-number i = first-of (store-rows i)
+
 unfoldable pub write-number : (address value : ℕ) → List ℕ → ℕ
-write-number a v i =
-    then (store-number i)
-    (cond (is-unclean (states (pages i))) UNCLEAN
-    (cond (wrong-address a) ADDRESS
-    (cond (is-value (value a (pages i)) v) OK
-    (cond (no-room a (pages i)) NO-ROOM
-    (cond (order-end (pages i)) ORDER-END OK)))))
+write-number a v i = first-of (write-rows a v i)
 
 unfoldable pub blank-read-number : (address : ℕ) → List ℕ → ℕ
-blank-read-number a i = then (store-number i) (cond (wrong-address a) ADDRESS OK)
+blank-read-number a i = first-of (blank-read-rows a i)
 
 unfoldable pub read-number : (address : ℕ) → List ℕ → ℕ
-read-number a i = then (blank-read-number a i) (cond (is-held (value a (pages i))) OK NOT-HELD)
+read-number a i = first-of (read-rows a i)
 
 -- what a call answers. "A refusal answers value 0, 0 steps, not finished, not paired, four zero digits, and changes no byte
 -- of the image."

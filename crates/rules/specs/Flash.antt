@@ -46,6 +46,11 @@ unfoldable pub run : ℕ → List Step → List ℕ → List ℕ
 run size [] i = i
 run size (s ∷ ss) i = run size ss (after size s i)
 
+-- each step of a list may be done when its turn comes
+unfoldable pub AllAllowed : ℕ → List Step → List ℕ → Type 0
+AllAllowed size [] i = Unit {0}
+AllAllowed size (s ∷ ss) i = Allowed size s i × AllAllowed size ss (after size s i)
+
 -- Of the lowest `width` bits none falls from 1 to 0, each 0 may have become 1, and the rest of the number is the same.
 unfoldable pub Rises : (width : ℕ) → ℕ → ℕ → Type 0
 Rises zero a b = a ≡ b

@@ -45,19 +45,43 @@ unclean b s = not (used b s || is-cleared s)
 unfoldable pub recovery-steps : (edition : ℕ) → List Page → List Step
 recovery-steps edition ps = renewals edition (λ k s. unclean (base (states ps)) s) 0 ps
 
--- Write. "Free slot in the active page: program the record there (2 steps)."
-unfoldable pub append-steps : (address value : ℕ) → List Page → List Step
-append-steps a v ps = word-steps (active-index (states ps)) (slot-place (free-slot (active-slots ps))) (record-word a v)
+-- Write. Where the record goes is its way: nowhere, "If the address holds that value already"; into the free slot of the active
+-- page; into a cleared page, opened with an order; or, with all that is held, into the last cleared page, moved to with an order.
+pub data Way : Type 0 where
+  stay : Way
+  append-to : (page slot : ℕ) → Way
+  open-at : (page order : ℕ) → Way
+  move-to : (page order : ℕ) → Way
 
--- the page that is taken: "the one of least wear, lowest index on a tie"
+unfoldable pub is-value : Option ℕ → ℕ → Bool
+is-value none v = false
+is-value (some u) v = eqb u v
+
+unfoldable pub has-free-slot : List Page → Bool
+has-free-slot ps = ltb (free-slot (active-slots ps)) (length (active-slots ps))
+
+-- the page that is taken: "the one of least wear, lowest index on a tie"; its order: "active order + 1"
 unfoldable pub taken : List Page → ℕ
 taken ps = index (least-worn 0 (states ps))
 
+unfoldable pub next-order : List Page → ℕ
+next-order ps = active-order (states ps) + 1
+
+unfoldable pub new-page : List Page → Way
+new-page ps = cond (leb 2 (count is-cleared (states ps))) (open-at (taken ps) (next-order ps)) (move-to (taken ps) (next-order ps))
+
+unfoldable pub way : (address value : ℕ) → List Page → Way
+way a v ps =
+    cond (is-value (value a ps) v) stay
+    (cond (has-free-slot ps) (append-to (active-index (states ps)) (free-slot (active-slots ps))) (new-page ps))
+
+-- "program the record there (2 steps)"
+unfoldable pub append-steps : (page slot address value : ℕ) → List Step
+append-steps p k a v = word-steps p (slot-place k) (record-word a v)
+
 -- "program its opening word (active order + 1, kind 1), then the record in slot 0 (4 steps)"
-unfoldable pub open-steps : (address value : ℕ) → List Page → List Step
-open-steps a v ps =
-    word-steps (taken ps) opening-place (opening-word 1 (active-order (states ps) + 1))
-    ++ word-steps (taken ps) (slot-place 0) (record-word a v)
+unfoldable pub open-steps : (page order address value : ℕ) → List Step
+open-steps p o a v = word-steps p opening-place (opening-word 1 o) ++ word-steps p (slot-place 0) (record-word a v)
 
 -- "Copy every held address but the written one, addresses rising, then the new record."
 unfoldable pub but : (address : ℕ) → List Setting → List Setting
@@ -71,25 +95,23 @@ unfoldable pub copy-steps : (page slot : ℕ) → List Setting → List Step
 copy-steps p k [] = []
 copy-steps p k (setting a v ∷ rs) = word-steps p (slot-place k) (record-word a v) ++ copy-steps p (suc k) rs
 
--- "program its opening word (active order + 1, kind 2). Copy ... Program the done word. Then treat every other page, in
--- index order, as recovery does": no other page is used then, and none is cleared.
-unfoldable pub move-steps : (edition address value : ℕ) → List Page → List Step
-move-steps edition a v ps =
-    word-steps (taken ps) opening-place (opening-word 2 (active-order (states ps) + 1))
-    ++ copy-steps (taken ps) 0 (copies a v ps)
-    ++ word-steps (taken ps) done-place (done-word (active-order (states ps) + 1))
-    ++ renewals edition (λ k s. not (eqb k (taken ps))) 0 ps
+-- "program its opening word (active order + 1, kind 2). Copy ... Program the done word."
+unfoldable pub fill-steps : (page order : ℕ) → List Setting → List Step
+fill-steps p o rs =
+    word-steps p opening-place (opening-word 2 o) ++ copy-steps p 0 rs ++ word-steps p done-place (done-word o)
 
-unfoldable pub has-free-slot : List Page → Bool
-has-free-slot ps = ltb (free-slot (active-slots ps)) (length (active-slots ps))
+-- "Then treat every other page, in index order, as recovery does": no other page is used then, and none is cleared.
+unfoldable pub other : (page index : ℕ) → State → Bool
+other p k s = not (eqb k p)
 
-unfoldable pub is-value : Option ℕ → ℕ → Bool
-is-value none v = false
-is-value (some u) v = eqb u v
+unfoldable pub move-steps : (edition page order : ℕ) → List Setting → List Page → List Step
+move-steps edition p o rs ps = fill-steps p o rs ++ renewals edition (other p) 0 ps
 
--- "If the address holds that value already, there are no steps."
+unfoldable pub way-steps : (edition address value : ℕ) → List Page → Way → List Step
+way-steps edition a v ps stay = []
+way-steps edition a v ps (append-to p k) = append-steps p k a v
+way-steps edition a v ps (open-at p o) = open-steps p o a v
+way-steps edition a v ps (move-to p o) = move-steps edition p o (copies a v ps) ps
+
 unfoldable pub write-steps : (edition address value : ℕ) → List Page → List Step
-write-steps edition a v ps =
-    cond (is-value (value a ps) v) []
-    (cond (has-free-slot ps) (append-steps a v ps)
-    (cond (leb 2 (count is-cleared (states ps))) (open-steps a v ps) (move-steps edition a v ps)))
+write-steps edition a v ps = way-steps edition a v ps (way a v ps)

@@ -1,6 +1,6 @@
 -- 01, "Page states", from the base order on; the free slot and the cleared page of least wear, from "Write".
 -- A store is the list of its pages, by index.
-use Prim.Native.Nat.{ℕ, zero, suc, _+_, max}
+use Prim.Native.Nat.{ℕ, zero, suc, _+_, _<_, max}
 use mathlib.Core.Bool.{Bool, true, false, cond, not, _&&_, _||_}
 use mathlib.Core.List.{List, [], _∷_, _++_, map}
 use mathlib.Core.Option.{Option, none, some}
@@ -62,6 +62,11 @@ add-order false o os = os
 unfoldable pub used-orders : (base : ℕ) → List State → List ℕ
 used-orders b [] = []
 used-orders b (s ∷ ss) = add-order (used b s) (order s) (used-orders b ss)
+
+-- every number of a list is below m
+unfoldable pub Under : ℕ → List ℕ → Type 0
+Under m [] = Unit {0}
+Under m (o ∷ os) = (o < m) × Under m os
 
 unfoldable pub greatest : List ℕ → ℕ
 greatest [] = 0
@@ -146,6 +151,15 @@ put-all held (r ∷ rs) = put-all (put r held) rs
 
 unfoldable pub settings : List Page → List Setting
 settings ps = put-all [] (journal ps)
+
+-- "addresses rising": each address is below those behind it
+unfoldable pub Above : ℕ → List Setting → Type 0
+Above a [] = Unit {0}
+Above a (setting b u ∷ rs) = (a < b) × Above a rs
+
+unfoldable pub Rising : List Setting → Type 0
+Rising [] = Unit {0}
+Rising (setting a v ∷ rs) = Above a rs × Rising rs
 
 unfoldable pub held : List Page → ℕ
 held ps = length (settings ps)

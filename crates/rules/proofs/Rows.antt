@@ -1,0 +1,101 @@
+-- The order of the tests: a call answers OK exactly if every test of its table fails. Assumes nothing.
+use Prim.Native.Nat.{ℕ, zero, suc}
+use mathlib.Core.Path.{_≡_, refl}
+use mathlib.Core.Bool.{Bool, true, false, cond, not, true≢false}
+use mathlib.Core.List.{List, [], _∷_, _++_}
+use native.Mathlib.Omega.{arith}
+use Rattle.rules.specs.Store.{states, value}
+use Rattle.rules.specs.Steps.{is-value}
+use Rattle.rules.specs.Call.{Row, row, first-of, then, pages, wrong-size, no-store, damaged, is-unclean, wrong-address, is-held, no-room, order-end, store-rows, store-number, blank-read-rows, blank-read-number, read-rows, read-number, write-rows, write-number, OK, UNCLEAN, ADDRESS, NO-ROOM, ORDER-END, NOT-HELD}
+
+-- every test fails, up to a row of OK whose test holds
+unfoldable pub AllFail : List Row → Type 0
+AllFail [] = Unit {0}
+AllFail (row zero t ∷ rows) = t ≡ false → AllFail rows
+AllFail (row (suc n) t ∷ rows) = (t ≡ false) × AllFail rows
+
+pub all-fail : (rows : List Row) → first-of rows ≡ OK → AllFail rows
+unfolding first-of AllFail
+all-fail [] e = tt
+all-fail (row zero true ∷ rows) e = λ f. absurd (true≢false f)
+all-fail (row zero false ∷ rows) e = λ f. all-fail rows e
+all-fail (row (suc n) true ∷ rows) e = absurd (let z : suc n ≡ 0 = e in omega arith)
+all-fail (row (suc n) false ∷ rows) e = (refl, all-fail rows e)
+
+pub none-given : (rows : List Row) → AllFail rows → first-of rows ≡ OK
+unfolding first-of AllFail
+none-given [] h = refl
+none-given (row zero true ∷ rows) h = refl
+none-given (row zero false ∷ rows) h = none-given rows (h refl)
+none-given (row (suc n) t ∷ rows) h = rw (h .0) (none-given rows (h .1))
+
+-- a table that goes on behind rows that all refuse
+unfoldable pub Refusing : List Row → Type 0
+Refusing [] = Unit {0}
+Refusing (row zero t ∷ rows) = ⊥
+Refusing (row (suc n) t ∷ rows) = Refusing rows
+
+pub goes-on : (rows more : List Row) → Refusing rows → first-of (rows ++ more) ≡ then (first-of rows) (first-of more)
+unfolding first-of Refusing then
+goes-on [] more h = refl
+goes-on (row zero t ∷ rows) more h = absurd h
+goes-on (row (suc n) true ∷ rows) more h = refl
+goes-on (row (suc n) false ∷ rows) more h = goes-on rows more h
+
+-- ---- what each call's OK tells
+
+module _ (i : List ℕ) where
+  pub store-fails : store-number i ≡ OK → (wrong-size i ≡ false) × (no-store (pages i) ≡ false) × (damaged (pages i) ≡ false)
+  unfolding store-number store-rows AllFail
+  store-fails ok = let h = all-fail (store-rows i) ok in (h .0, h .1 .0, h .1 .1 .0)
+
+  pub store-passes : wrong-size i ≡ false → no-store (pages i) ≡ false → damaged (pages i) ≡ false → store-number i ≡ OK
+  unfolding store-number store-rows AllFail
+  store-passes s n d = none-given (store-rows i) (s, (n, (d, tt)))
+
+  store-refuses : Refusing (store-rows i)
+  unfolding store-rows Refusing
+  store-refuses = tt
+
+  pub blank-read-goes-on : (a : ℕ) → blank-read-number a i ≡ then (store-number i) (cond (wrong-address a) ADDRESS OK)
+  unfolding blank-read-number blank-read-rows store-number first-of
+  blank-read-goes-on a = goes-on (store-rows i) (row ADDRESS (wrong-address a) ∷ []) store-refuses
+
+  pub read-goes-on : (a : ℕ) → read-number a i ≡ then (blank-read-number a i) (cond (not (is-held (value a (pages i)))) NOT-HELD OK)
+  unfolding read-number read-rows blank-read-number blank-read-rows store-rows first-of Refusing
+  read-goes-on a = goes-on (blank-read-rows a i) (row NOT-HELD (not (is-held (value a (pages i)))) ∷ []) tt
+
+  -- the tests of a write behind those of the store
+  abbrev pub write-more : (a v : ℕ) → List Row
+  write-more a v =
+      row UNCLEAN (is-unclean (states (pages i)))
+      ∷ row ADDRESS (wrong-address a)
+      ∷ row OK (is-value (value a (pages i)) v)
+      ∷ row NO-ROOM (no-room a (pages i))
+      ∷ row ORDER-END (order-end (pages i))
+      ∷ []
+
+  pub write-goes-on : (a v : ℕ) → write-number a v i ≡ then (store-number i) (first-of (write-more a v))
+  unfolding write-number write-rows store-number
+  write-goes-on a v = goes-on (store-rows i) (write-more a v) store-refuses
+
+  -- an accepted write passed each test
+  pub record WriteFails (a v : ℕ) : Type 0 where
+    pub stored : store-number i ≡ OK
+    pub clean : is-unclean (states (pages i)) ≡ false
+    pub address : wrong-address a ≡ false
+    pub room : is-value (value a (pages i)) v ≡ false → no-room a (pages i) ≡ false
+    pub order : is-value (value a (pages i)) v ≡ false → order-end (pages i) ≡ false
+
+  pub write-fails : (a v : ℕ) → write-number a v i ≡ OK → WriteFails a v
+  unfolding write-number write-rows store-rows AllFail
+  write-fails a v ok =
+      let h = all-fail (write-rows a v i) ok in
+      let more = h .1 .1 .1 in
+      record {
+        stored = store-passes (h .0) (h .1 .0) (h .1 .1 .0);
+        clean = more .0;
+        address = more .1 .0;
+        room = λ new. more .1 .1 new .0;
+        order = λ new. more .1 .1 new .1 .0;
+      }
