@@ -9,7 +9,7 @@ use lib.Dec.{eqb, ltb}
 use borrow.Author.Tests.{eqb-true, eqb-false, eq-eqb, ne-eqb}
 use Rattle.rules.specs.Page.{State}
 use Rattle.rules.specs.Store.{states, base, used, is-open, used-orders, count, held}
-use Rattle.rules.specs.Call.{pages, wrong-size, no-store, repeats, all-used, damaged, store-number, then, held-limit, OK, SIZE, NO-STORE, DAMAGED}
+use Rattle.rules.specs.Call.{first-of, store-rows, pages, wrong-size, no-store, repeats, all-used, damaged, store-number, then, held-limit, OK, SIZE, NO-STORE, DAMAGED}
 use Rattle.rules.proofs.Truth.{by-cases, not-both, failed, or-false-left}
 use Rattle.rules.proofs.Answers.{then-refused}
 use Rattle.rules.proofs.Stores.{count-open}
@@ -102,7 +102,7 @@ held-last false false false true z = refl
 held-last false false false false z = refl
 
 pages-then-held : (i : List ℕ) → then (pages-number i) (cond (ltb held-limit (held (pages i))) DAMAGED OK) ≡ store-number i
-unfolding pages-number store-number damaged
+unfolding pages-number store-number store-rows first-of damaged
 pages-then-held i =
     held-last (wrong-size i) (no-store (pages i)) (repeats (used-orders (base (states (pages i))) (states (pages i)))) (all-used (states (pages i))) (ltb held-limit (held (pages i)))
 

@@ -12,9 +12,10 @@ use Rattle.rules.specs.Flash.{Step, run}
 use Rattle.rules.specs.Word.{opening-word, done-word, record-word, word-steps}
 use Rattle.rules.specs.Page.{slot-place}
 use Rattle.rules.specs.Store.{Setting, setting, states, is-cleared, active-order, active-index, active-slots, count, settings, held, value, free-slot}
-use Rattle.rules.specs.Steps.{but, copies, copy-steps, append-steps, open-steps, move-steps, write-steps, taken, has-free-slot, is-value}
+use Rattle.rules.specs.Steps.{way, way-steps, new-page, next-order, fill-steps, but, copies, copy-steps, append-steps, open-steps, move-steps, write-steps, taken, has-free-slot, is-value}
 use Rattle.rules.specs.Call.{page-edition, page-count, pages, store-number, write-number, is-unclean, is-held, no-room, wrong-address, then, write}
-use Rattle.rules.proofs.Truth.{by-cases, failed}
+use Rattle.rules.proofs.Rows.{write-fails}
+use Rattle.rules.proofs.Truth.{by-cases}
 use Rattle.rules.proofs.Plans.{AllAllowed, allowed-take}
 use Rattle.rules.proofs.Settings.{by-option, but-length, but-length-held}
 use Rattle.rules.proofs.Held.{held-rising, held-few, value-is}
@@ -36,23 +37,16 @@ use Rattle.writing.proofs.Parts.{opening-long}
 
 -- ---- an accepted write passed each test
 
-both-ok : (n next : ℕ) → then n next ≡ 0 → (n ≡ 0) × (next ≡ 0)
-unfolding then
-both-ok zero next e = (refl, e)
-both-ok (suc n) next e = absurd (omega arith)
-
 module _ (a v : ℕ) (i : List ℕ) (ok : write-number a v i ≡ 0) where
   pub store-right : store-number i ≡ 0
-  unfolding write-number
-  store-right = both-ok (store-number i) _ ok .0
+  store-right = write-fails i a v ok .stored
 
   pub none-unclean : is-unclean (states (pages i)) ≡ false
-  unfolding write-number
-  none-unclean = failed (is-unclean (states (pages i))) 3 _ (both-ok (store-number i) _ ok .1) .0
+  none-unclean = write-fails i a v ok .clean
 
   pub address-right : a < 65535
-  unfolding write-number wrong-address
-  address-right = leb-false 65535 a (failed (wrong-address a) 4 _ (failed (is-unclean (states (pages i))) 3 _ (both-ok (store-number i) _ ok .1) .1) .0)
+  unfolding wrong-address
+  address-right = leb-false 65535 a (write-fails i a v ok .address)
 
 -- ---- the steps, by the way
 
@@ -75,30 +69,30 @@ module _ (a v : ℕ) (i : List ℕ) where
   unfolding copies
   few-copies ok = omega (arith, length-append (but a (settings (pages i))) (setting a v ∷ []), but-length a (settings (pages i)), held-few i ok)
 
-  open-is : open-steps a v (pages i) ≡ opening-plan (taken (pages i)) (active-order (states (pages i)) + 1) a v
-  unfolding open-steps opening-plan
+  open-is : open-steps (taken (pages i)) (next-order (pages i)) a v ≡ opening-plan (taken (pages i)) (active-order (states (pages i)) + 1) a v
+  unfolding open-steps opening-plan next-order
   open-is = refl
 
-  move-is : move-steps page-edition a v (pages i) ≡ moving-plan (taken (pages i)) (active-order (states (pages i)) + 1) (page-count i) (copies a v (pages i)) i
-  unfolding move-steps moving-plan filling-plan pages
+  move-is : move-steps page-edition (taken (pages i)) (next-order (pages i)) (copies a v (pages i)) (pages i) ≡ moving-plan (taken (pages i)) (active-order (states (pages i)) + 1) (page-count i) (copies a v (pages i)) i
+  unfolding move-steps fill-steps Rattle.rules.specs.Steps.other next-order moving-plan filling-plan pages
   move-is = ap (λ (ss : List Step). word-steps (taken (pages i)) 1 (opening-word 2 (active-order (states (pages i)) + 1)) ++ copy-steps (taken (pages i)) 0 (copies a v (pages i)) ++ word-steps (taken (pages i)) 2 (done-word (active-order (states (pages i)) + 1)) ++ ss) (sym (picked-others (page-count i) (taken (pages i)) i))
 
   module _ (ok : write-number a v i ≡ 0) where
     means-stay : is-value (value a (pages i)) v ≡ true → Means Stay
-    unfolding Means write-steps
+    unfolding Means write-steps way way-steps
     means-stay s = (ok, rw s)
 
     module _ (s : is-value (value a (pages i)) v ≡ false) where
       means-append : has-free-slot (pages i) ≡ true → Means (Append (active-index (states (pages i))) (slot-place (free-slot (active-slots (pages i)))))
-      unfolding Means write-steps append-steps
+      unfolding Means write-steps way way-steps append-steps
       means-append f = ((ok, rw (s, f)), append-allowed i (store-right a v i ok) a v f)
 
       means-open : has-free-slot (pages i) ≡ false → leb 2 (count is-cleared (states (pages i))) ≡ true → Means (Open (taken (pages i)) (active-order (states (pages i)) + 1))
-      unfolding Means write-steps open-steps opening-plan
+      unfolding Means write-steps way way-steps new-page next-order open-steps opening-plan
       means-open f c = ((ok, rw (s, f, c)), open-allowed i (store-right a v i ok) (none-unclean a v i ok) a v)
 
       means-move : has-free-slot (pages i) ≡ false → leb 2 (count is-cleared (states (pages i))) ≡ false → Means (Move (taken (pages i)) (active-order (states (pages i)) + 1))
-      unfolding Means write-steps filling-plan
+      unfolding Means write-steps way way-steps new-page next-order fill-steps filling-plan
       means-move f c =
           let right = store-right a v i ok in
           let clean = none-unclean a v i ok in
@@ -216,10 +210,7 @@ module _ (a v n : ℕ) (i : List ℕ) (w : Way) (is : w ≡ way-for a v i) (fits
 -- ---- the longest write
 
 held-room : (a v : ℕ) (i : List ℕ) → write-number a v i ≡ 0 → is-value (value a (pages i)) v ≡ false → no-room a (pages i) ≡ false
-unfolding write-number
-held-room a v i ok s =
-    let r = failed (wrong-address a) 4 _ (failed (is-unclean (states (pages i))) 3 _ (both-ok (store-number i) _ ok .1) .1) .1 in
-    failed (no-room a (pages i)) 5 _ (rw s at r) .0
+held-room a v i ok s = write-fails i a v ok .room s
 
 copies-few : (a v : ℕ) (i : List ℕ) → write-number a v i ≡ 0 → is-value (value a (pages i)) v ≡ false → length (copies a v (pages i)) ≤ 192
 unfolding copies no-room is-held held
@@ -234,7 +225,7 @@ copies-few a v i ok s =
 
 -- 388 steps and 3 for each page but one, as 01 has it
 pub longest-write : (a v : ℕ) (i : List ℕ) → write-number a v i ≡ 0 → length (write-steps page-edition a v (pages i)) ≤ 388 + 3 * (page-count i - 1)
-unfolding write-steps append-steps
+unfolding write-steps way way-steps new-page append-steps
 longest-write a v i ok =
     by-cases (is-value (value a (pages i)) v) (λ s. rw s (omega arith))
     (λ s.
