@@ -1,9 +1,9 @@
 /* calls CALL IMAGE ADDRESS TIMES: does the call TIMES times, each time on a fresh copy of the image in that file; a write
  * gives the address another value than it has. Prints the answer's number, then its steps or value.
  *
- * With `stack` for TIMES it does it once and prints, in third place, the bytes of stack that the call used, its return
- * address included: the call runs on a stack of its own that was painted before, and how far down the paint was changed
- * is what it used. For x86-64. */
+ * With `stack` for TIMES it does it once and prints, in third place, the bytes of stack that the call used, the return
+ * address that x86-64 puts there included: the call runs on a stack of its own that was painted before, and how far down
+ * the paint was changed is what it used. For x86-64 and aarch64. */
 #include "istrovell.h"
 
 #include <stdio.h>
@@ -31,6 +31,7 @@ static uint64_t plain(const struct call *call)
     return ((any *)call->function)(lent, length, call->rest[0], call->rest[1], call->rest[2]);
 }
 
+#if defined(__x86_64__)
 static uint64_t on_stack(const struct call *call, uint8_t *top)
 {
     uint64_t answer;
@@ -48,6 +49,27 @@ static uint64_t on_stack(const struct call *call, uint8_t *top)
                        "xmm7", "xmm8", "xmm9", "xmm10", "xmm11", "xmm12", "xmm13", "xmm14", "xmm15");
     return answer;
 }
+#elif defined(__aarch64__)
+static uint64_t on_stack(const struct call *call, uint8_t *top)
+{
+    register uint64_t first __asm__("x0") = (uint64_t)lent; /* and the answer */
+    register uint64_t second __asm__("x1") = length;
+    register uint64_t third __asm__("x2") = call->rest[0];
+    register uint64_t fourth __asm__("x3") = call->rest[1];
+    register uint64_t fifth __asm__("x4") = call->rest[2];
+    __asm__ volatile("mov x20, sp\n\t"
+                     "mov sp, %[top]\n\t"
+                     "blr %[function]\n\t"
+                     "mov sp, x20"
+                     : "+r"(first), "+r"(second), "+r"(third), "+r"(fourth), "+r"(fifth)
+                     : [top] "r"(top), [function] "r"(call->function)
+                     : "x5", "x6", "x7", "x8", "x9", "x10", "x11", "x12", "x13", "x14", "x15", "x16", "x17", "x18", "x20",
+                       "x30", "memory", "cc", "v0", "v1", "v2", "v3", "v4", "v5", "v6", "v7", "v8", "v9", "v10", "v11",
+                       "v12", "v13", "v14", "v15", "v16", "v17", "v18", "v19", "v20", "v21", "v22", "v23", "v24", "v25",
+                       "v26", "v27", "v28", "v29", "v30", "v31");
+    return first;
+}
+#endif
 
 static size_t stack_used(const struct call *call, uint64_t *answer)
 {

@@ -2,6 +2,7 @@
 them to FILE."""
 
 import os
+import platform
 import random
 import re
 import subprocess
@@ -162,10 +163,11 @@ def version(*words):
 
 
 def report(counts, used):
+    machine = platform.machine().replace("_", "-")
     tools = ", ".join([version("rt", "version"), version("rustc", "--version"), version("valgrind", "--version")])
     return f"""# Benchmarks
 
-Made by `bench/run`, which writes this page. x86-64; {tools}.
+Made by `bench/run`, which writes this page. {machine}; {tools}.
 
 ## Instructions per call
 

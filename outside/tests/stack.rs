@@ -1,11 +1,11 @@
 //! The stack that each exported call uses: at most 4 KB, on images of 2 and of 32 pages.
 //!
 //! A call runs on a stack of its own that was painted before; how far down it changed the paint is what it used. Two
-//! paints, because a byte that is written with the paint's own value shows nothing. For x86-64 on Linux.
+//! paints, because a byte that is written with the paint's own value shows nothing. For x86-64 and aarch64 on Linux.
 //!
 //! A broken library that this catches: one that keeps a copy of a few pages on its stack (`a_deep_call_is_felt`).
 
-#![cfg(all(feature = "library", target_arch = "x86_64", unix))]
+#![cfg(all(feature = "library", any(target_arch = "x86_64", target_arch = "aarch64"), unix))]
 
 use std::arch::asm;
 
@@ -44,32 +44,61 @@ fn calls(address: u16, value: u8) -> [(&'static str, Function, [u64; 3]); 6] {
     ]
 }
 
-/// The answer's first byte, its number, and the stack used, the return address included.
+/// Calls the function on the stack that ends at `top`; gives the answer's register.
+///
+/// # Safety
+/// The function takes pointer, length and at most three numbers, and answers in one register; the stack is large, aligned
+/// to 16, and for this call alone.
+#[cfg(target_arch = "x86_64")]
+unsafe fn call_at(top: *mut u128, function: Function, image: &mut [u8], rest: [u64; 3]) -> u64 {
+    let answer: u64;
+    asm!(
+        "mov r12, rsp",
+        "mov rsp, {top}",
+        "call {function}",
+        "mov rsp, r12",
+        top = in(reg) top,
+        function = in(reg) function,
+        in("rdi") image.as_mut_ptr(),
+        in("rsi") image.len(),
+        in("rdx") rest[0],
+        in("rcx") rest[1],
+        in("r8") rest[2],
+        lateout("rax") answer,
+        out("r12") _,
+        clobber_abi("C"),
+    );
+    answer
+}
+
+#[cfg(target_arch = "aarch64")]
+unsafe fn call_at(top: *mut u128, function: Function, image: &mut [u8], rest: [u64; 3]) -> u64 {
+    let answer: u64;
+    asm!(
+        "mov x20, sp",
+        "mov sp, {top}",
+        "blr {function}",
+        "mov sp, x20",
+        top = in(reg) top,
+        function = in(reg) function,
+        in("x0") image.as_mut_ptr(),
+        in("x1") image.len(),
+        in("x2") rest[0],
+        in("x3") rest[1],
+        in("x4") rest[2],
+        lateout("x0") answer,
+        out("x20") _,
+        clobber_abi("C"),
+    );
+    answer
+}
+
+/// The answer's first byte, its number, and the stack used; on x86-64 the return address is part of it.
 fn call_on(stack: &mut [u128], paint: u8, function: Function, image: &mut [u8], rest: [u64; 3]) -> (u8, usize) {
     let bytes = std::mem::size_of_val(stack);
     stack.fill(u128::from_ne_bytes([paint; 16]));
-    let top = stack.as_mut_ptr_range().end;
-    let answer: u64;
-    // SAFETY: the exports take pointer, length and at most three numbers, and answer in one register; `image` lives
-    // through the call, and the stack, aligned to 16, is large and ours.
-    unsafe {
-        asm!(
-            "mov r12, rsp",
-            "mov rsp, {top}",
-            "call {function}",
-            "mov rsp, r12",
-            top = in(reg) top,
-            function = in(reg) function,
-            in("rdi") image.as_mut_ptr(),
-            in("rsi") image.len(),
-            in("rdx") rest[0],
-            in("rcx") rest[1],
-            in("r8") rest[2],
-            lateout("rax") answer,
-            out("r12") _,
-            clobber_abi("C"),
-        );
-    }
+    // SAFETY: the exports, and `deep`, are such functions; `image` lives through the call, and the stack is ours.
+    let answer = unsafe { call_at(stack.as_mut_ptr_range().end, function, image, rest) };
     let untouched = stack.iter().flat_map(|word| word.to_ne_bytes()).take_while(|&byte| byte == paint).count();
     assert!(untouched > 0, "the stack overflowed");
     (answer as u8, bytes - untouched)
