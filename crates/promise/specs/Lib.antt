@@ -1,2 +1,5 @@
+-- The promise: the calls, what may befall a store, what it promises, and what a workshop asks about it.
+pub mod Calls
+pub mod History
 pub mod Promise
 pub mod Corollaries

@@ -1,80 +1,57 @@
--- What the customer demands of a store whose power fails ("demand 3"), with the customer's words beside each clause.
-use Prim.Native.Nat.{ℕ, zero, suc, _<_}
+-- What a store promises, of any calls that obey the rules: the customer's second and third demand.
+use Prim.Native.Nat.{ℕ, _<_}
 use mathlib.Core.Path.{_≡_}
 use mathlib.Core.Logic.{_⊎_}
 use mathlib.Core.Bool.{true, false}
-use mathlib.Core.List.{List, [], _∷_}
-use Rattle.rules.specs.Flash.{Step, after, run, Fails}
 use Rattle.rules.specs.Store.{states}
-use Rattle.rules.specs.Steps.{recovery-steps, write-steps}
-use Rattle.rules.specs.Call.{page-size, page-edition, pages, wrong-size, store-number, is-unclean, write-number, OK, NO-STORE, DAMAGED, UNCLEAN, Reading, format, write, read}
+use Rattle.rules.specs.Call.{pages, is-unclean, OK, NO-STORE, DAMAGED, UNCLEAN, Stepped, Reading}
+use Rattle.promise.specs.Calls.{Image, Question, value-at, Answer, Asks, finds, with-value, Calls, Obeys}
+use Rattle.promise.specs.History.{InUse, Recoveries, Interrupted}
 
--- Power fails in a list of steps: n of them are done, and the next, if there is one, is not begun or fails. With n the number
--- of steps the list is finished.
-pub data Left (size : ℕ) : ℕ → List Step → (before left : List ℕ) → Type 0 where
-  between : {ss : List Step} {i : List ℕ} → Left size 0 ss i i
-  failing : {s : Step} {ss : List Step} {i j : List ℕ} → Fails size s i j → Left size 0 (s ∷ ss) i j
-  later : {n : ℕ} {s : Step} {ss : List Step} {i j : List ℕ} → Left size n ss (after size s i) j → Left size (suc n) (s ∷ ss) i j
+module _ (C : Calls) where
+  -- k answers a question as i does; or as i does, with v as the value of a
+  abbrev pub Same : (q : Question) (i k : Image) → Type 0
+  Same q i k = (before after : Answer q) → C .Answers q i before → C .Answers q k after → after ≡ before
 
-abbrev pub recovery-of : List ℕ → List Step
-recovery-of i = recovery-steps page-edition (pages i)
+  abbrev pub Changed : (a v : ℕ) (q : Question) (i k : Image) → Type 0
+  Changed a v q i k = (before after : Answer q) → C .Answers q i before → C .Answers q k after → after ≡ with-value a v q before
 
-abbrev pub write-of : (address value : ℕ) → List ℕ → List Step
-write-of a v i = write-steps page-edition a v (pages i)
+  -- What a finished write puts at an address, a read finds. This is so of every image that the write accepts.
+  pub record Found (a v : ℕ) (i j : Image) : Type 0 where
+    pub there : (r : Reading) → C .Answers (value-at a) j r → r ≡ finds v
+    -- every other address answers as before
+    pub elsewhere : (q : Question) → (Asks q a → ⊥) → Same q i j
+    -- and whatever shows the address shows the new value there
+    pub everywhere : (q : Question) → Changed a v q i j
 
--- "Take a store whose last format finished and which only our calls have touched since. Power may have failed in any step of
--- a write or recovery, as 01 describes a failing step." A write is in its history if it was accepted; that a recovery has
--- finished before it is not even asked.
-pub data InUse : List ℕ → Type 0 where
-  formatted : (i : List ℕ) → wrong-size i ≡ false → InUse (format i .image)
-  recovered : {n : ℕ} {i j : List ℕ} → InUse i → Left page-size n (recovery-of i) i j → InUse j
-  written : {n : ℕ} {i j : List ℕ} (a v : ℕ) → InUse i → write-number a v i ≡ OK → Left page-size n (write-of a v i) i j → InUse j
+  -- Power fails anywhere in the next accepted write of a store in use, and perhaps in the recoveries after it.
+  pub record NothingLost (a v : ℕ) (i : Image) : Type 0 where
+    -- Every other address answers as before.
+    pub others : {n : ℕ} {k : Image} → Interrupted C a v i n k → (q : Question) → (Asks q a → ⊥) → Same q i k
+    -- The written address answers as before the write, or with the new value.
+    pub old-or-new : {n : ℕ} {k : Image} → Interrupted C a v i n k → (q : Question) → Same q i k ⊎ Changed a v q i k
+    -- If a failure at one step leaves the new value, a failure at any later step leaves it too.
+    pub new-stays : {n m : ℕ} {k l : Image} → Interrupted C a v i n k → Interrupted C a v i m l → n < m
+        → (q : Question) (old one later : Answer q) → C .Answers q i old → C .Answers q k one → C .Answers q l later
+        → one ≡ with-value a v q old → later ≡ with-value a v q old
+    -- The store is in use again.
+    pub still-in-use : {n : ℕ} {k : Image} → Interrupted C a v i n k → InUse C k
 
--- "and perhaps in the recoveries after it": any number of them, each stopped anywhere or finished
-pub data Recoveries : (before left : List ℕ) → Type 0 where
-  none : {i : List ℕ} → Recoveries i i
-  more : {n : ℕ} {i j k : List ℕ} → Left page-size n (recovery-of i) i j → Recoveries j k → Recoveries i k
+  -- What a recovery makes of a store in use.
+  pub record Mended (i : Image) : Type 0 where
+    -- Wherever it was stopped, and however often, every answer is as before.
+    pub answers : {k : Image} → Recoveries C i k → (q : Question) → Same q i k
+    -- It is accepted.
+    pub accepted : (n : ℕ) (s : Stepped) → C .Recovers n i s → s .number ≡ OK
+    -- When it has finished, no page is unclean, and a write is not refused as NO STORE, DAMAGED or UNCLEAN.
+    pub clean : (n : ℕ) (s : Stepped) → C .Recovers n i s → s .finished ≡ true → is-unclean (states (pages (s .image))) ≡ false
+    pub writable : (n : ℕ) (s : Stepped) → C .Recovers n i s → s .finished ≡ true → (a v m : ℕ) (w : Stepped) → C .Writes a v m (s .image) w
+        → (w .number ≡ NO-STORE → ⊥) × (w .number ≡ DAMAGED → ⊥) × (w .number ≡ UNCLEAN → ⊥)
 
--- the answer of a read that finds v
-abbrev pub finds : ℕ → Reading
-finds v = record { number = OK; value = v }
+  pub record KeepsItsWord : Type 0 where
+    pub finds-what-is-written : (i : Image) (a v n : ℕ) (s : Stepped) → C .Writes a v n i s → s .number ≡ OK → s .finished ≡ true → Found a v i (s .image)
+    pub loses-nothing : (i : Image) → InUse C i → (a v : ℕ) → NothingLost a v i
+    pub mends : (i : Image) → InUse C i → Mended i
 
--- "Now power fails anywhere in the next accepted write, and perhaps in the recoveries after it": k is what n whole steps of
--- the write of v at a, in the store i, and then recoveries leave.
-pub record Cut (a v : ℕ) (i : List ℕ) (n : ℕ) (k : List ℕ) : Type 0 where
-  pub left : List ℕ
-  pub fails : Left page-size n (write-of a v i) i left
-  pub then : Recoveries left k
-
-pub record Promise (a v : ℕ) (i : List ℕ) : Type 0 where
-  -- "Every other address answers as before."
-  pub others : (n : ℕ) (k : List ℕ) → Cut a v i n k → (x : ℕ) → (x ≡ a → ⊥) → read x k ≡ read x i
-  -- "The written address answers as before the write, or with the new value."
-  pub old-or-new : (n : ℕ) (k : List ℕ) → Cut a v i n k → (read a k ≡ read a i) ⊎ (read a k ≡ finds v)
-  -- "If a failure at one step leaves the new value, a failure at any later step leaves it too."
-  pub new-stays : (n m : ℕ) (k l : List ℕ) → Cut a v i n k → read a k ≡ finds v → n < m → Cut a v i m l → read a l ≡ finds v
-  -- and the store is again one that the promise speaks of
-  pub still-in-use : (n : ℕ) (k : List ℕ) → Cut a v i n k → InUse k
-
--- what a recovery makes of a store in use: it is accepted, and when it finishes no page is unclean, so that a write is not
--- refused as NO STORE, DAMAGED or UNCLEAN
-pub record Recovers (i : List ℕ) : Type 0 where
-  pub accepted : store-number i ≡ OK
-  pub clean : is-unclean (states (pages (run page-size (recovery-of i) i))) ≡ false
-  pub writable : (x u : ℕ) → let number = write-number x u (run page-size (recovery-of i) i) in (number ≡ NO-STORE → ⊥) × (number ≡ DAMAGED → ⊥) × (number ≡ UNCLEAN → ⊥)
-  pub still-in-use : InUse (run page-size (recovery-of i) i)
-
--- demand 2: "What a finished write puts at an address, a read finds", and what it leaves everywhere else
-pub record Found (a v n : ℕ) (i : List ℕ) : Type 0 where
-  pub there : read a (write a v n i .image) ≡ finds v
-  pub elsewhere : (x : ℕ) → (x ≡ a → ⊥) → read x (write a v n i .image) ≡ read x i
-
--- The three promises.
-abbrev pub nothing-is-lost : Type 0
-nothing-is-lost = (i : List ℕ) → InUse i → (a v : ℕ) → write-number a v i ≡ OK → Promise a v i
-
-abbrev pub recovery-mends : Type 0
-recovery-mends = (i : List ℕ) → InUse i → Recovers i
-
-abbrev pub what-is-written-is-found : Type 0
-what-is-written-is-found = (i : List ℕ) → InUse i → (a v n : ℕ) → write-number a v i ≡ OK → write a v n i .finished ≡ true → Found a v n i
+abbrev pub the-promise : Type 1
+the-promise = (C : Calls) → Obeys C → KeepsItsWord C

@@ -1,1 +1,2 @@
-// Demand 3 as a theorem about the rules: specs/Promise.antt states it, proofs/ shows it. There is no code here.
+// What a store promises, as theorems about all calls that obey the rules: specs/ states them, proofs/ shows them. There is no
+// code here.

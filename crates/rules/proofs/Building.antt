@@ -1,6 +1,6 @@
 -- A cleared page is built up: its opening word, copies, its done word. What its pages are then, and that each step may be done;
 -- of any store with such a page. Assumes nothing.
-use Prim.Native.Nat.{ℕ, zero, suc, _+_, _-_, _≤_, _<_}
+use Prim.Native.Nat.{ℕ, zero, suc, _-_, _≤_}
 use mathlib.Core.Path.{_≡_, refl, sym, ap, _∙_, subst}
 use mathlib.Core.Bool.{true}
 use mathlib.Core.List.{List, [], _∷_, _++_}
@@ -38,13 +38,15 @@ module _ (k : ℕ) (f r : Pages) (w O : Word) (ys : List Word) where
   abbrev pub receiving-page : List Word → List Word
   receiving-page ws = w ∷ O ∷ blank-word ∷ ws
 
-  copy-at : (a v : ℕ) (xs : List Word) → word-steps (length f) (slot-place (length xs)) (record-word a v) ≡ word-steps (length f) (length (receiving-page xs)) (record-word a v)
+  copy-at : (a v : ℕ) (xs : List Word)
+      → word-steps (length f) (slot-place (length xs)) (record-word a v) ≡ word-steps (length f) (length (receiving-page xs)) (record-word a v)
   copy-at a v xs = let e : slot-place (length xs) ≡ length (receiving-page xs) = omega arith in ap (λ (i : ℕ). word-steps (length f) i (record-word a v)) e
 
   next-slot : (x : Word) (xs : List Word) → length (xs ++ x ∷ []) ≡ suc (length xs)
   next-slot x xs = let e = length-append xs (x ∷ []) in omega arith
 
-  pub copy-run : (cs : List Setting) (xs : List Word) → store-run k (copy-steps (length f) (length xs) cs) (f ++ receiving-page (xs ++ room cs ys) ∷ r) ≡ f ++ receiving-page (xs ++ (written cs ++ ys)) ∷ r
+  pub copy-run : (cs : List Setting) (xs : List Word)
+      → store-run k (copy-steps (length f) (length xs) cs) (f ++ receiving-page (xs ++ room cs ys) ∷ r) ≡ f ++ receiving-page (xs ++ (written cs ++ ys)) ∷ r
   unfolding copy-steps room written store-run
   copy-run [] xs = refl
   copy-run (setting a v ∷ cs) xs =
@@ -58,44 +60,55 @@ module _ (k : ℕ) (f r : Pages) (w O : Word) (ys : List Word) where
       ∙ (rw (next-slot x xs, append-snoc xs x (room cs ys), append-snoc xs x (written cs ++ ys)) at rest)
 
   -- what holds of the page with any light word in its next slot holds all through
-  module _ (P : Pages → Type 0) (Q : List Word → Type 0) (keeps : (ws : List Word) → Q ws → P (f ++ receiving-page ws ∷ r)) (changes : (xs : List Word) (v : Word) (zs : List Word) → Light v → Q (xs ++ blank-word ∷ zs) → Q (xs ++ v ∷ zs)) where
-    pub copy-through : (cs : List Setting) (xs : List Word) → Q (xs ++ room cs ys) → Through k P (copy-steps (length f) (length xs) cs) (f ++ receiving-page (xs ++ room cs ys) ∷ r)
+  module _ (May : Type 0) (P : Pages → Type 0) (Q : List Word → Type 0)
+      (keeps : (ws : List Word) → Q ws → P (f ++ receiving-page ws ∷ r))
+      (changes : (xs : List Word) (v : Word) (zs : List Word) → Light v → Q (xs ++ blank-word ∷ zs) → Q (xs ++ v ∷ zs)) where
+    pub copy-through : (cs : List Setting) (xs : List Word) → Q (xs ++ room cs ys)
+        → Through k May P (copy-steps (length f) (length xs) cs) (f ++ receiving-page (xs ++ room cs ys) ∷ r)
     unfolding copy-steps room
     copy-through [] xs q = end (keeps (xs ++ ys) q)
     copy-through (setting a v ∷ cs) xs q =
         let x = record-word a v in
         let later = copy-steps (length f) (suc (length xs)) cs in
-        let first = word-through k f r (receiving-page xs) (room cs ys) P x (record-sound a v) (λ u l. keeps (xs ++ u ∷ room cs ys) (changes xs u (room cs ys) l q)) in
+        let first = word-through k f r (receiving-page xs) (room cs ys) May P x (record-sound a v)
+        (λ u l. keeps (xs ++ u ∷ room cs ys) (changes xs u (room cs ys) l q)) in
         let q′ : Q ((xs ++ x ∷ []) ++ room cs ys) = rw append-snoc (changes xs x (room cs ys) (sound-light x (record-sound a v)) q) in
-        let rest : Through k P later (f ++ receiving-page (xs ++ x ∷ room cs ys) ∷ r) = rw (next-slot x xs, append-snoc xs x (room cs ys)) at (copy-through cs (xs ++ x ∷ []) q′) in
-        subst (λ (ss : List Step). Through k P (ss ++ later) (f ++ receiving-page (xs ++ blank-word ∷ room cs ys) ∷ r)) (sym (copy-at a v xs))
-        (through-append k later first (subst (Through k P later) (sym (word-run k f r (receiving-page xs) (room cs ys) x)) rest))
+        let rest : Through k May P later (f ++ receiving-page (xs ++ x ∷ room cs ys) ∷ r) =
+        rw (next-slot x xs, append-snoc xs x (room cs ys)) at (copy-through cs (xs ++ x ∷ []) q′) in
+        subst (λ (ss : List Step). Through k May P (ss ++ later) (f ++ receiving-page (xs ++ blank-word ∷ room cs ys) ∷ r)) (sym (copy-at a v xs))
+        (through-append later first (subst (Through k May P later) (sym (word-run k f r (receiving-page xs) (room cs ys) x)) rest))
 
--- ---- each step may be done, whatever the other pages are
+-- ---- each step may be done, whatever the pages are
 
-abbrev pub Any : Pages → Type 0
-Any F = Unit {0}
+abbrev pub Doable : (k : ℕ) → List Step → Pages → Type 0
+Doable k = Through k ⊥ (λ F. Unit {0})
 
-pub word-any : (k : ℕ) (f r : Pages) (xs ys : List Word) (w : Word) → sound w ≡ true → Through k Any (word-steps (length f) (length xs) w) (f ++ (xs ++ blank-word ∷ ys) ∷ r)
-word-any k f r xs ys w s = word-through k f r xs ys Any w s (λ v l. tt)
+pub word-any : (k : ℕ) (f r : Pages) (xs ys : List Word) (w : Word) → sound w ≡ true
+    → Doable k (word-steps (length f) (length xs) w) (f ++ (xs ++ blank-word ∷ ys) ∷ r)
+word-any k f r xs ys w s = word-through k f r xs ys ⊥ (λ F. Unit {0}) w s (λ v l. tt)
 
 -- a record in a free slot
-pub append-any : (k : ℕ) (f : Pages) (x y z : Word) (xs ys : List Word) (r : Pages) (a v : ℕ) → Through k Any (word-steps (length f) (slot-place (length xs)) (record-word a v)) (f ++ (x ∷ y ∷ z ∷ (xs ++ blank-word ∷ ys)) ∷ r)
+pub append-any : (k : ℕ) (f : Pages) (x y z : Word) (xs ys : List Word) (r : Pages) (a v : ℕ)
+    → Doable k (word-steps (length f) (slot-place (length xs)) (record-word a v)) (f ++ (x ∷ y ∷ z ∷ (xs ++ blank-word ∷ ys)) ∷ r)
 append-any k f x y z xs ys r a v =
     let e : slot-place (length xs) ≡ length (x ∷ y ∷ z ∷ xs) = omega arith in
     rw e (word-any k f r (x ∷ y ∷ z ∷ xs) ys (record-word a v) (record-sound a v))
 
 -- an opening word, and a record in slot 0
-pub open-any : (k m′ : ℕ) (f : Pages) (w : Word) (r : Pages) (o a v : ℕ) → Through k Any (word-steps (length f) opening-place (opening-word 1 o) ++ word-steps (length f) (slot-place 0) (record-word a v)) (f ++ taken-page (suc m′) w ∷ r)
+pub open-any : (k m′ : ℕ) (f : Pages) (w : Word) (r : Pages) (o a v : ℕ)
+    → Doable k (word-steps (length f) opening-place (opening-word 1 o) ++ word-steps (length f) (slot-place 0) (record-word a v))
+    (f ++ taken-page (suc m′) w ∷ r)
 open-any k m′ f w r o a v =
     let O = opening-word 1 o in
     let ran = word-run k f r (w ∷ []) (replicate (suc (suc m′)) blank-word) O in
-    through-append k (word-steps (length f) (slot-place 0) (record-word a v)) (word-any k f r (w ∷ []) (replicate (suc (suc m′)) blank-word) O (opening-sound 1 o))
-    (subst (Through k Any (word-steps (length f) (slot-place 0) (record-word a v))) (sym ran) (append-any k f w O blank-word [] (replicate m′ blank-word) r a v))
+    through-append (word-steps (length f) (slot-place 0) (record-word a v))
+    (word-any k f r (w ∷ []) (replicate (suc (suc m′)) blank-word) O (opening-sound 1 o))
+    (subst (Doable k (word-steps (length f) (slot-place 0) (record-word a v))) (sym ran) (append-any k f w O blank-word [] (replicate m′ blank-word) r a v))
 
 -- an opening word, copies, and the done word
 pub move-any : (k m : ℕ) (f : Pages) (w : Word) (r : Pages) (o : ℕ) (cs : List Setting) → length cs ≤ m
-    → Through k Any (word-steps (length f) opening-place (opening-word 2 o) ++ copy-steps (length f) 0 cs ++ word-steps (length f) done-place (done-word o)) (f ++ taken-page m w ∷ r)
+    → Doable k (word-steps (length f) opening-place (opening-word 2 o) ++ copy-steps (length f) 0 cs ++ word-steps (length f) done-place (done-word o))
+    (f ++ taken-page m w ∷ r)
 move-any k m f w r o cs h =
     let O = opening-word 2 o in
     let ys = replicate (m - length cs) blank-word in
@@ -104,7 +117,8 @@ move-any k m f w r o cs h =
     let opened : store-run k (word-steps (length f) opening-place O) (f ++ taken-page m w ∷ r) ≡ f ++ (w ∷ O ∷ blank-word ∷ room cs ys) ∷ r =
     word-run k f r (w ∷ []) (replicate (suc m) blank-word) O ∙ ap (λ (ws : List Word). f ++ (w ∷ O ∷ blank-word ∷ ws) ∷ r) (room-is cs m h) in
     let first = word-any k f r (w ∷ []) (replicate (suc m) blank-word) O (opening-sound 2 o) in
-    let second = copy-through k f r w O ys Any (λ ws. Unit {0}) (λ ws q. tt) (λ xs v zs l q. tt) cs [] tt in
-    let both = through-append k copying first (subst (Through k Any copying) (sym opened) second) in
-    let ran = store-run-append k (word-steps (length f) opening-place O) copying (f ++ taken-page m w ∷ r) ∙ ap (store-run k copying) opened ∙ copy-run k f r w O ys cs [] in
-    through-append k doing both (subst (Through k Any doing) (sym ran) (word-any k f r (w ∷ O ∷ []) (written cs ++ ys) (done-word o) (done-sound o)))
+    let second = copy-through k f r w O ys ⊥ (λ F. Unit {0}) (λ ws. Unit {0}) (λ ws q. tt) (λ xs v zs l q. tt) cs [] tt in
+    let both = through-append copying first (subst (Doable k copying) (sym opened) second) in
+    let ran = store-run-append k (word-steps (length f) opening-place O) copying (f ++ taken-page m w ∷ r)
+    ∙ ap (store-run k copying) opened ∙ copy-run k f r w O ys cs [] in
+    through-append doing both (subst (Doable k doing) (sym ran) (word-any k f r (w ∷ O ∷ []) (written cs ++ ys) (done-word o) (done-sound o)))

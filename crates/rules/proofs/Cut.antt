@@ -5,12 +5,13 @@ use mathlib.Core.Path.{_≡_, refl, sym, ap, _∙_}
 use mathlib.Core.List.{List, [], _∷_}
 use native.Mathlib.Nat.{add-suc, add-assoc, zero-mul, suc-mul, mul-le-mul-right}
 use native.Mathlib.Omega.{arith}
-use lib.ListN.{length, take, drop, getD, set, replicate, length-drop, length-replicate}
+use lib.ListN.{length, take, drop, getD, set, replicate, length-drop, length-map, length-replicate}
 use lib.Seq.{sets, take-set-le, take-set-lt, drop-set-lt, drop-set-add, drop-drop, length-sets, length-take-le}
-use Rattle.rules.specs.Flash.{Half, first, second, half-offset, Step, program, erase, offset, aim, bytes-at, Allowed, after, AllRise, none, more, least, Fails}
+use Rattle.rules.specs.Flash.{Half, first, second, half-offset, Step, program, erase, offset, aim, bytes-at, Allowed, after, AllRise, none}
+use Rattle.rules.specs.Flash.{more, least, Fails}
 use Rattle.rules.specs.Word.{Word, word, words}
-use Rattle.rules.specs.Page.{blank-word}
-use Rattle.rules.specs.Call.{cut}
+use Rattle.rules.specs.Page.{blank-word, page}
+use Rattle.rules.specs.Call.{page-size, page-edition, cut, page-count, pages}
 use Rattle.rules.proofs.Bits.{rises-refl, rises-top}
 use Rattle.rules.proofs.Words.{rise}
 use Rattle.rules.proofs.Shape.{with-half, target, page-after, WordsRise, half-way, erasing, store-after, StoreFails, Within}
@@ -83,7 +84,8 @@ words-replicate zero = refl
 words-replicate (suc k) = rw next-words (ap (λ (r : List Word). blank-word ∷ r) (words-replicate k))
 
 -- a half-word that is stored is stored in its word
-pub words-sets : (w : ℕ) (h : Half) (x y : ℕ) (i : List ℕ) → 4 * w + 4 ≤ length i → words (sets i (4 * w + half-offset h) (x ∷ y ∷ [])) ≡ set (words i) w (with-half h (getD (words i) w blank-word) x y)
+pub words-sets : (w : ℕ) (h : Half) (x y : ℕ) (i : List ℕ) → 4 * w + 4 ≤ length i
+    → words (sets i (4 * w + half-offset h) (x ∷ y ∷ [])) ≡ set (words i) w (with-half h (getD (words i) w blank-word) x y)
 unfolding words with-half
 words-sets w h x y [] l = absurd (omega arith)
 words-sets w h x y (a ∷ []) l = absurd (omega arith)
@@ -102,7 +104,8 @@ words-rise (more p (more q none)) = WordsRise.none
 words-rise (more p (more q (more r none))) = WordsRise.none
 words-rise (more p (more q (more r (more s t)))) = WordsRise.more (rise p q r s) (words-rise t)
 
-pub words-at : (w : ℕ) (i : List ℕ) → 4 * w + 4 ≤ length i → getD (words i) w blank-word ≡ word (getD i (4 * w) 0) (getD i (4 * w + 1) 0) (getD i (4 * w + 2) 0) (getD i (4 * w + 3) 0)
+pub words-at : (w : ℕ) (i : List ℕ) → 4 * w + 4 ≤ length i
+    → getD (words i) w blank-word ≡ word (getD i (4 * w) 0) (getD i (4 * w + 1) 0) (getD i (4 * w + 2) 0) (getD i (4 * w + 3) 0)
 unfolding words
 words-at w [] l = absurd (omega arith)
 words-at w (a ∷ []) l = absurd (omega arith)
@@ -130,6 +133,11 @@ pub cut-length : (size n : ℕ) (i : List ℕ) → length (cut size n i) ≡ n
 unfolding cut
 cut-length size zero i = refl
 cut-length size (suc n) i = ap suc (cut-length size n (drop size i))
+
+-- an image has as many pages as its length says
+pub pages-long : (i : List ℕ) → length (pages i) ≡ page-count i
+unfolding pages
+pages-long i = length-map (cut page-size (page-count i) i) (page page-edition) ∙ cut-length page-size (page-count i) i
 
 -- the words of page p
 pub cut-page : (size n p : ℕ) (i : List ℕ) → p < n → getD (cut size n i) p [] ≡ words (bytes-at (p * size) size i)
@@ -166,7 +174,8 @@ cut-all-length k (suc n) i e =
     (words-length k (take (4 * k) i) (length-take-le (4 * k) i (omega arith)), cut-all-length k n (drop (4 * k) i) (rw length-drop (omega arith)))
 
 -- what is stored within one page is stored in that page
-pub cut-sets : (size n p o : ℕ) (vs i : List ℕ) → p < n → o + length vs ≤ size → cut size n (sets i (p * size + o) vs) ≡ set (cut size n i) p (words (sets (bytes-at (p * size) size i) o vs))
+pub cut-sets : (size n p o : ℕ) (vs i : List ℕ) → p < n → o + length vs ≤ size
+    → cut size n (sets i (p * size + o) vs) ≡ set (cut size n i) p (words (sets (bytes-at (p * size) size i) o vs))
 unfolding cut
 cut-sets size zero p o vs i h l = absurd (omega arith)
 cut-sets size (suc n) zero o vs i h l =
@@ -179,25 +188,35 @@ cut-sets size (suc n) (suc p) o vs i h l =
 -- ---- steps
 
 -- a half-word that is stored in an image, and a page that is
-pub cut-half : (k n p w : ℕ) (h : Half) (x y : ℕ) (i : List ℕ) → length i ≡ n * (4 * k) → p < n → w < k → cut (4 * k) n (sets i (p * (4 * k) + 4 * w + half-offset h) (x ∷ y ∷ [])) ≡ set (cut (4 * k) n i) p (set (getD (cut (4 * k) n i) p []) w (with-half h (getD (getD (cut (4 * k) n i) p []) w blank-word) x y))
+pub cut-half : (k n p w : ℕ) (h : Half) (x y : ℕ) (i : List ℕ) → length i ≡ n * (4 * k) → p < n → w < k
+    → cut (4 * k) n (sets i (p * (4 * k) + 4 * w + half-offset h) (x ∷ y ∷ []))
+    ≡ set (cut (4 * k) n i) p (set (getD (cut (4 * k) n i) p []) w (with-half h (getD (getD (cut (4 * k) n i) p []) w blank-word) x y))
 cut-half k n p w h x y i e pn wk =
     let l = page-bytes-length k n p i e pn in
     let fits : half-offset h ≤ 2 = half-fits h in
     let at : p * (4 * k) + 4 * w + half-offset h ≡ p * (4 * k) + (4 * w + half-offset h) = omega arith in
-    rw (at, cut-page (4 * k) n p i pn, cut-sets (4 * k) n p (4 * w + half-offset h) (x ∷ y ∷ []) i pn (omega arith), words-sets w h x y (bytes-at (p * (4 * k)) (4 * k) i) (omega arith))
+    rw (
+      at,
+      cut-page (4 * k) n p i pn,
+      cut-sets (4 * k) n p (4 * w + half-offset h) (x ∷ y ∷ []) i pn (omega arith),
+      words-sets w h x y (bytes-at (p * (4 * k)) (4 * k) i) (omega arith),
+    )
   where
     half-fits : (h : Half) → half-offset h ≤ 2
     half-fits first = omega arith
     half-fits second = omega arith
 
-pub cut-whole : (k n p : ℕ) (vs i : List ℕ) → length i ≡ n * (4 * k) → p < n → length vs ≡ 4 * k → cut (4 * k) n (sets i (p * (4 * k)) vs) ≡ set (cut (4 * k) n i) p (words vs)
+pub cut-whole : (k n p : ℕ) (vs i : List ℕ) → length i ≡ n * (4 * k) → p < n → length vs ≡ 4 * k
+    → cut (4 * k) n (sets i (p * (4 * k)) vs) ≡ set (cut (4 * k) n i) p (words vs)
 cut-whole k n p vs i e pn l =
     let l′ = page-bytes-length k n p i e pn in
     let at : p * (4 * k) ≡ p * (4 * k) + 0 = omega arith in
-    ap (λ (o : ℕ). cut (4 * k) n (sets i o vs)) at ∙ cut-sets (4 * k) n p 0 vs i pn (omega arith) ∙ ap (λ (r : List ℕ). set (cut (4 * k) n i) p (words r)) (sets-whole (bytes-at (p * (4 * k)) (4 * k) i) vs (cc))
+    ap (λ (o : ℕ). cut (4 * k) n (sets i o vs)) at ∙ cut-sets (4 * k) n p 0 vs i pn (omega arith)
+    ∙ ap (λ (r : List ℕ). set (cut (4 * k) n i) p (words r)) (sets-whole (bytes-at (p * (4 * k)) (4 * k) i) vs (cc))
 
 -- a step does to the pages what `store-after` says
-pub cut-after : (k n : ℕ) (s : Step) (i : List ℕ) → length i ≡ n * (4 * k) → Within n k s → cut (4 * k) n (after (4 * k) s i) ≡ store-after k s (cut (4 * k) n i)
+pub cut-after : (k n : ℕ) (s : Step) (i : List ℕ) → length i ≡ n * (4 * k) → Within n k s
+    → cut (4 * k) n (after (4 * k) s i) ≡ store-after k s (cut (4 * k) n i)
 unfolding after offset aim store-after target page-after Within
 cut-after k n (program p w h low high) i e v = cut-half k n p w h low high i e (v .0) (v .1)
 cut-after k n (erase p) i e v =
@@ -211,17 +230,24 @@ pub all-rise-length : {xs ys : List ℕ} → AllRise xs ys → length ys ≡ len
 all-rise-length none = refl
 all-rise-length (more p r) = ap suc (all-rise-length r)
 
-fails-half : (k n p w : ℕ) (h : Half) (low high : ℕ) (i j left : List ℕ) → length i ≡ n * (4 * k) → p < n → w < k → AllRise (low ∷ high ∷ []) left → j ≡ sets i (p * (4 * k) + 4 * w + half-offset h) left → StoreFails (program p w h low high) (cut (4 * k) n i) (cut (4 * k) n j)
+fails-half : (k n p w : ℕ) (h : Half) (low high : ℕ) (i j left : List ℕ) → length i ≡ n * (4 * k) → p < n → w < k
+    → AllRise (low ∷ high ∷ []) left → j ≡ sets i (p * (4 * k) + 4 * w + half-offset h) left
+    → StoreFails (program p w h low high) (cut (4 * k) n i) (cut (4 * k) n j)
 unfolding target
 fails-half k n p w h low high i j left e pn wk (more {b = x} r (more {b = y} r′ none)) im =
     record { page = _; fails = half-way x y r r′ refl; rest = ap (cut (4 * k) n) im ∙ cut-half k n p w h x y i e pn wk }
 
 -- a step that fails does to the pages what `StoreFails` says
-pub cut-fails : (k n : ℕ) (s : Step) (i j : List ℕ) → length i ≡ n * (4 * k) → Within n k s → Fails (4 * k) s i j → StoreFails s (cut (4 * k) n i) (cut (4 * k) n j)
+pub cut-fails : (k n : ℕ) (s : Step) (i j : List ℕ) → length i ≡ n * (4 * k) → Within n k s → Fails (4 * k) s i j
+    → StoreFails s (cut (4 * k) n i) (cut (4 * k) n j)
 unfolding offset least target Within
 cut-fails k n (program p w h low high) i j e v f = fails-half k n p w h low high i j (f .left) e (v .0) (v .1) (f .rises) (f .image)
 cut-fails k n (erase p) i j e v f =
-    record { page = words (f .left); fails = rw (cut-page (4 * k) n p i v) (erasing (words-rise (f .rises))); rest = ap (cut (4 * k) n) (f .image) ∙ cut-whole k n p (f .left) i e v (all-rise-length (f .rises) ∙ page-bytes-length k n p i e v) }
+    record {
+      page = words (f .left);
+      fails = rw (cut-page (4 * k) n p i v) (erasing (words-rise (f .rises)));
+      rest = ap (cut (4 * k) n) (f .image) ∙ cut-whole k n p (f .left) i e v (all-rise-length (f .rises) ∙ page-bytes-length k n p i e v);
+    }
 
 pub length-fails : {size : ℕ} {s : Step} {i j : List ℕ} → Fails size s i j → length j ≡ length i
 length-fails {size} {s} {i} {j} f = ap length (f .image) ∙ length-sets i (offset size s) (f .left)
@@ -251,7 +277,11 @@ pub complete : (size : ℕ) (s : Step) (i : List ℕ) → FindsBytes size s i �
 unfolding after aim least FindsBytes offset
 complete size (program p w h low high) i b = record { left = low ∷ high ∷ []; rises = all-rise-refl (low ∷ high ∷ []); image = refl }
 complete size (erase p) i b =
-    record { left = replicate size 255; rises = rw (bytes-at-length (p * size) size i (b .0)) at (all-rise-top (bytes-at (p * size) size i) (b .1)); image = refl }
+    record {
+      left = replicate size 255;
+      rises = rw (bytes-at-length (p * size) size i (b .0)) at (all-rise-top (bytes-at (p * size) size i) (b .1));
+      image = refl;
+    }
 
 -- what a step must be so that its failure can look untouched: a program step one of bytes, an erase any
 unfoldable pub MeansBytes : Step → Type 0
@@ -262,5 +292,10 @@ pub untouched : (size : ℕ) (s : Step) (i : List ℕ) → Allowed size s i → 
 unfolding Allowed MeansBytes least offset bytes-at
 untouched size (program p w h low high) i a b =
     let o : ℕ = offset size (program p w h low high) in
-    record { left = 255 ∷ 255 ∷ []; rises = more (rises-top 8 low (b .0)) (more (rises-top 8 high (b .1)) none); image = sym (sets-same 2 o i) ∙ ap (sets i o) a }
-untouched size (erase p) i a b = record { left = bytes-at (p * size) size i; rises = all-rise-refl (bytes-at (p * size) size i); image = sym (sets-same size (p * size) i) }
+    record {
+      left = 255 ∷ 255 ∷ [];
+      rises = more (rises-top 8 low (b .0)) (more (rises-top 8 high (b .1)) none);
+      image = sym (sets-same 2 o i) ∙ ap (sets i o) a;
+    }
+untouched size (erase p) i a b =
+    record { left = bytes-at (p * size) size i; rises = all-rise-refl (bytes-at (p * size) size i); image = sym (sets-same size (p * size) i) }

@@ -18,5 +18,13 @@ pub mod Rows
 pub mod Ready
 pub mod Held
 pub mod Answers
+pub mod Good
+pub mod Recovering
+pub mod Appending
+pub mod Opening
+pub mod Moving
+pub mod Writing
+pub mod Formatting
+pub mod Healthy
 pub mod Laid
 pub mod Moves

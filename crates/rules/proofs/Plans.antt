@@ -6,13 +6,15 @@ use native.Mathlib.Numerals.{add-one}
 use native.Mathlib.Omega.{arith}
 use lib.ListN.{length, getD, take, drop, replicate, length-drop, length-replicate, getD-replicate, List·getD-append}
 use lib.Seq.{getD-take, getD-drop, drop-cons, take-nil, sets, sets-eq}
-use Rattle.rules.specs.Flash.{Half, first, second, Step, program, erase, half-offset, offset, aim, bytes-at, Allowed, after, run}
-use Rattle.rules.specs.Word.{Word, word, words, word-steps}
+use Rattle.rules.specs.Flash.{Half, first, second, Step, program, erase, half-offset, offset, aim, bytes-at, Allowed, after, run, Fails, Left}
+use Rattle.rules.specs.Flash.{between, failing, later}
+use Rattle.rules.specs.Word.{Word, word, word-steps}
 use Rattle.rules.specs.Page.{blank-word}
 use Rattle.rules.specs.Call.{cut}
 use Rattle.rules.proofs.Shape.{Within}
-use Rattle.rules.proofs.Cut.{drop-sets-above, drop-sets-below, cut-length, cut-page, cut-page-length, cut-after, length-after, page-within, page-bytes-length, words-at}
-use Rattle.rules.proofs.Phases.{Pages, BlankHalf, Fits, Through, end, step, store-run}
+use Rattle.rules.proofs.Cut.{drop-sets-above, drop-sets-below, cut-length, cut-page, cut-page-length, cut-after, length-after, cut-fails}
+use Rattle.rules.proofs.Cut.{length-fails, page-within, page-bytes-length, words-at}
+use Rattle.rules.proofs.Phases.{Pages, PagesLeft, BlankHalf, Fits, Through, end, step, store-run}
 unfoldable pub use Rattle.rules.specs.Flash.{AllAllowed}
 
 -- ---- runs
@@ -47,7 +49,8 @@ allowed-take size (suc n) [] i h = tt
 allowed-take size (suc n) (s ∷ ss) i h = (h .0, allowed-take size n ss (after size s i) (h .1))
 
 -- of two lists under one allowance
-pub allowed-cut : (size n : ℕ) (xs ys : List Step) (i : List ℕ) → AllAllowed size (take n (xs ++ ys)) i → AllAllowed size (take n xs) i × AllAllowed size (take (n - length xs) ys) (run size (take n xs) i)
+pub allowed-cut : (size n : ℕ) (xs ys : List Step) (i : List ℕ) → AllAllowed size (take n (xs ++ ys)) i
+    → AllAllowed size (take n xs) i × AllAllowed size (take (n - length xs) ys) (run size (take n xs) i)
 allowed-cut size n xs ys i h = allowed-split size (take n xs) (take (n - length xs) ys) i (rw take-append at h)
 
 -- ---- from pages to bytes
@@ -83,8 +86,10 @@ module _ (k n : ℕ) where
   page-word p w i l p-in w-in =
       let B = bytes-at (p * (4 * k)) (4 * k) i in
       let long : length B ≡ 4 * k = page-bytes-length k n p i l p-in in
-      let byte : (j : ℕ) → j < 4 * k → getD B j 0 ≡ getD i (p * (4 * k) + j) 0 = λ j h. getD-take (4 * k) (drop (p * (4 * k)) i) j 0 h ∙ getD-drop (p * (4 * k)) i j 0 in
-      let c : (j m : ℕ) → p * (4 * k) + (4 * w + j) ≡ m → 4 * w + j < 4 * k → getD B (4 * w + j) 0 ≡ getD i m 0 = λ j m e h. byte (4 * w + j) h ∙ ap (λ (x : ℕ). getD i x 0) e in
+      let byte : (j : ℕ) → j < 4 * k → getD B j 0 ≡ getD i (p * (4 * k) + j) 0 =
+      λ j h. getD-take (4 * k) (drop (p * (4 * k)) i) j 0 h ∙ getD-drop (p * (4 * k)) i j 0 in
+      let c : (j m : ℕ) → p * (4 * k) + (4 * w + j) ≡ m → 4 * w + j < 4 * k → getD B (4 * w + j) 0 ≡ getD i m 0 =
+      λ j m e h. byte (4 * w + j) h ∙ ap (λ (x : ℕ). getD i x 0) e in
       let e₀ : getD B (4 * w) 0 ≡ getD i (p * (4 * k) + 4 * w) 0 = byte (4 * w) (omega arith) in
       let e₁ : getD B (4 * w + 1) 0 ≡ getD i (p * (4 * k) + 4 * w + 1) 0 = c 1 (p * (4 * k) + 4 * w + 1) (omega arith) (omega arith) in
       let e₂ : getD B (4 * w + 2) 0 ≡ getD i (p * (4 * k) + 4 * w + 2) 0 = c 2 (p * (4 * k) + 4 * w + 2) (omega arith) (omega arith) in
@@ -92,7 +97,8 @@ module _ (k n : ℕ) where
       ap (λ (pg : List Word). getD pg w blank-word) (cut-page (4 * k) n p i p-in) ∙ words-at w B (omega arith) ∙ same-word e₀ e₁ e₂ e₃
 
   -- the half-word of a step reads 65,535 if the half of its word does
-  blank-bytes : (p w : ℕ) (h : Half) (i : List ℕ) → Sized i → p < n → w < k → BlankHalf h (getD (getD (paged i) p []) w blank-word) → take 2 (drop (p * (4 * k) + 4 * w + half-offset h) i) ≡ 255 ∷ 255 ∷ []
+  blank-bytes : (p w : ℕ) (h : Half) (i : List ℕ) → Sized i → p < n → w < k
+      → BlankHalf h (getD (getD (paged i) p []) w blank-word) → take 2 (drop (p * (4 * k) + 4 * w + half-offset h) i) ≡ 255 ∷ 255 ∷ []
   unfolding BlankHalf
   blank-bytes p w first i l p-in w-in b =
       let o = p * (4 * k) + 4 * w in
@@ -115,22 +121,48 @@ module _ (k n : ℕ) where
       let h = page-within (4 * k) n p (fits-within (erase p) i l f) in
       omega arith
 
-  module _ {P : Pages → Type 0} where
+  module _ {May : Type 0} {P : Pages → Type 0} where
     -- what holds through the steps on pages holds of the image
-    pub run-pages : (ss : List Step) (i : List ℕ) → Through k P ss (paged i) → Sized i → (paged (run (4 * k) ss i) ≡ store-run k ss (paged i)) × Sized (run (4 * k) ss i)
+    pub run-pages : (ss : List Step) (i : List ℕ) → Through k May P ss (paged i) → Sized i
+        → (paged (run (4 * k) ss i) ≡ store-run k ss (paged i)) × Sized (run (4 * k) ss i)
     unfolding run store-run
     run-pages [] i (end p) l = (refl, l)
     run-pages (s ∷ ss) i (step c p f t) l =
         let e = cut-after k n s i l (fits-within s i l c) in
-        let y = run-pages ss (after (4 * k) s i) (subst (Through k P ss) (sym e) t) (length-after (4 * k) s i ∙ l) in
+        let y = run-pages ss (after (4 * k) s i) (subst (Through k May P ss) (sym e) t) (length-after (4 * k) s i ∙ l) in
         (y .0 ∙ ap (store-run k ss) e, y .1)
 
-    pub through-allowed : (ss : List Step) (i : List ℕ) → Through k P ss (paged i) → Sized i → AllAllowed (4 * k) ss i
+    pub through-allowed : (ss : List Step) (i : List ℕ) → Through k May P ss (paged i) → Sized i → AllAllowed (4 * k) ss i
     unfolding AllAllowed
     through-allowed [] i t l = tt
     through-allowed (s ∷ ss) i (step c p f t) l =
         let e = cut-after k n s i l (fits-within s i l c) in
-        (fits-allowed s i l c, through-allowed ss (after (4 * k) s i) (subst (Through k P ss) (sym e) t) (length-after (4 * k) s i ∙ l))
+        (fits-allowed s i l c, through-allowed ss (after (4 * k) s i) (subst (Through k May P ss) (sym e) t) (length-after (4 * k) s i ∙ l))
+
+-- ---- what power may leave
+
+-- what power may leave, of an image
+abbrev pub BytesLeft : (size : ℕ) → ℕ → List Step → List ℕ → List ℕ → Type 0
+BytesLeft size = Left (after size) (Fails size)
+
+-- what the step after the first n leaves is what a failure after so many leaves
+pub left-after : (size n : ℕ) (ss : List Step) (i j : List ℕ) → BytesLeft size 0 (drop (length (take n ss)) ss) (run size (take n ss) i) j
+    → BytesLeft size (length (take n ss)) ss i j
+unfolding run
+left-after size zero ss i j h = h
+left-after size (suc n) [] i j h = h
+left-after size (suc n) (s ∷ ss) i j h = later (left-after size n ss (after size s i) j h)
+
+-- of an image, it is what it may leave of its pages
+pub left-pages : (k n : ℕ) {May : Type 0} {P : Pages → Type 0} {c : ℕ} {ss : List Step} {i j : List ℕ} → Through k May P ss (paged k n i) → Sized k n i
+    → BytesLeft (4 * k) c ss i j → PagesLeft k c ss (paged k n i) (paged k n j) × Sized k n j
+left-pages k n t l between = (between, l)
+left-pages k n {i = i} {j = j} (step {s = s} c p f t) l (failing x) =
+    (failing (cut-fails k n s i j l (fits-within k n s i l c) x), length-fails x ∙ l)
+left-pages k n {May} {P} {i = i} {j = j} (step {s = s} {ss = ss} c p f t) l (later {n = d} x) =
+    let e = cut-after k n s i l (fits-within k n s i l c) in
+    let y = left-pages k n (subst (Through k May P ss) (sym e) t) (length-after (4 * k) s i ∙ l) x in
+    (later (subst (λ (F : Pages). PagesLeft k d ss F (paged k n j)) e (y .0)), y .1)
 
 -- ---- an erased page may be programmed anywhere
 
@@ -151,7 +183,8 @@ getD-sets-above o x vs l h =
 
 module _ (size p : ℕ) (i : List ℕ) (fits : p * size + size ≤ length i) where
   -- the first half of a word leaves what lies behind it
-  first-keeps : (k a b x : ℕ) → p * size + 4 * k + 2 ≤ x → getD (after size (program p k first a b) (after size (erase p) i)) x 0 ≡ getD (after size (erase p) i) x 0
+  first-keeps : (k a b x : ℕ) → p * size + 4 * k + 2 ≤ x
+      → getD (after size (program p k first a b) (after size (erase p) i)) x 0 ≡ getD (after size (erase p) i) x 0
   unfolding after offset aim
   first-keeps k a b x g = getD-sets-above (p * size + 4 * k + 0) x (a ∷ b ∷ []) (after size (erase p) i) (two-more (p * size + 4 * k) x g)
     where
@@ -180,7 +213,8 @@ module _ (size p : ℕ) (i : List ℕ) (fits : p * size + size ≤ length i) whe
       two-bytes o (after size (erase p) i) (omega arith)
       ∙ ap₂ (λ (x y : ℕ). x ∷ y ∷ []) (erased-at (4 * k) o (omega arith) (omega arith)) (erased-at (4 * k + 1) (o + 1) e (omega arith))
 
-  second-blank : (k a b c d : ℕ) → 4 * k + 4 ≤ size → take 2 (drop (offset size (program p k second c d)) (after size (program p k first a b) (after size (erase p) i))) ≡ 255 ∷ 255 ∷ []
+  second-blank : (k a b c d : ℕ) → 4 * k + 4 ≤ size
+      → take 2 (drop (offset size (program p k second c d)) (after size (program p k first a b) (after size (erase p) i))) ≡ 255 ∷ 255 ∷ []
   unfolding offset
   second-blank k a b c d h =
       let o = p * size + 4 * k + 2 in

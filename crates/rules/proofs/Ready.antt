@@ -18,13 +18,13 @@ use Rattle.rules.specs.Call.{page-size, page-edition, page-count, cut, p
 use Rattle.rules.proofs.Rows.{store-fails}
 use Rattle.rules.proofs.Truth.{by-cases, or-false-left, or-false-right}
 use Rattle.rules.proofs.Cut.{cut-length, cut-all-length}
-use Rattle.rules.proofs.Phases.{Pages, Through}
+use Rattle.rules.proofs.Phases.{Pages}
 use Rattle.rules.proofs.Plans.{AllAllowed, through-allowed}
 use Rattle.rules.proofs.Told.{told, Headed}
 use Rattle.rules.proofs.Slots.{FreeAt}
 use Rattle.rules.proofs.Stores.{length-states, orders, orders-used, count-used}
 use Rattle.rules.proofs.Active.{Ordered, at-active, active-place, active-free, Takes, takes, taken-page, some-cleared}
-use Rattle.rules.proofs.Building.{Any, append-any, open-any, move-any}
+use Rattle.rules.proofs.Building.{Doable, append-any, open-any, move-any}
 use Rattle.rules.proofs.Renewing.{format-through}
 
 -- ---- an image of a lawful size
@@ -56,7 +56,7 @@ format-allowed i w =
     let l = s .least in
     let p = cut-cons (page-count i) i (omega arith) in
     subst (λ (n : ℕ). AllAllowed 1024 (format-steps page-edition n) i) (sym (p .3))
-    (through-allowed 256 (page-count i) (format-steps page-edition (suc (length (p .1)))) i (subst (Through 256 Any (format-steps page-edition (suc (length (p .1))))) (sym (p .2)) (format-through page-edition 253 (p .0) (p .1))) (s .sized))
+    (through-allowed 256 (page-count i) (format-steps page-edition (suc (length (p .1)))) i (subst (Doable 256 (format-steps page-edition (suc (length (p .1))))) (sym (p .2)) (format-through page-edition 253 (p .0) (p .1))) (s .sized))
 
 -- ---- a store with an open page has a used one
 
@@ -151,7 +151,7 @@ module _ (i : List ℕ) (ok : store-number i ≡ OK) where
       }
 
   -- the steps of a write, in each of its three cases
-  allowed : (ss : List Step) → Through 256 Any ss words-of → AllAllowed 1024 ss i
+  allowed : (ss : List Step) → Doable 256 ss words-of → AllAllowed 1024 ss i
   allowed ss t = through-allowed 256 (page-count i) ss i t (sizes .sized)
 
   pub append-allowed : (a v : ℕ) → has-free-slot (pages i) ≡ true → AllAllowed 1024 (append-steps (active-index (states (pages i))) (free-slot (active-slots (pages i))) a v) i
@@ -167,7 +167,7 @@ module _ (i : List ℕ) (ok : store-number i ≡ OK) where
           p .form ∙ ap (λ (q : List Word). p .front ++ q ∷ p .rest) (hd .form ∙ ap (λ (ws : List Word). hd .x ∷ hd .y ∷ hd .z ∷ ws) (at .form)) in
           allowed (append-steps (active-index (states (pages i))) (free-slot (active-slots (pages i))) a v)
           (rw (active-place page-edition 256 base-of orders-of words-of ordered, t .2 ∙ sym (at .place))
-          (subst (Through 256 Any (word-steps (length (p .front)) (slot-place (length (at .front))) (record-word a v))) (sym form)
+          (subst (Doable 256 (word-steps (length (p .front)) (slot-place (length (at .front))) (record-word a v))) (sym form)
           (append-any 256 (p .front) (hd .x) (hd .y) (hd .z) (at .front) (at .rest) (p .rest) a v)))
 
   -- which page is active, within the image
@@ -212,7 +212,7 @@ module _ (i : List ℕ) (ok : store-number i ≡ OK) where
         let o = active-order (states (pages i)) + 1 in
         allowed (open-steps (taken (pages i)) (next-order (pages i)) a v)
         (rw (t .place)
-        (subst (Through 256 Any (word-steps (length (t .front)) opening-place (opening-word 1 o) ++ word-steps (length (t .front)) (slot-place 0) (record-word a v))) (sym (t .form))
+        (subst (Doable 256 (word-steps (length (t .front)) opening-place (opening-word 1 o) ++ word-steps (length (t .front)) (slot-place 0) (record-word a v))) (sym (t .form))
         (open-any 256 252 (t .front) (t .first) (t .rest) o a v)))
 
     pub move-allowed : (cs : List Setting) → length cs ≤ 253 → AllAllowed 1024 (fill-steps (taken (pages i)) (next-order (pages i)) cs) i
@@ -222,7 +222,7 @@ module _ (i : List ℕ) (ok : store-number i ≡ OK) where
         let o = active-order (states (pages i)) + 1 in
         allowed (fill-steps (taken (pages i)) (next-order (pages i)) cs)
         (rw (t .place)
-        (subst (Through 256 Any (fill-steps (length (t .front)) o cs)) (sym (t .form)) (move-any 256 253 (t .front) (t .first) (t .rest) o cs h)))
+        (subst (Doable 256 (fill-steps (length (t .front)) o cs)) (sym (t .form)) (move-any 256 253 (t .front) (t .first) (t .rest) o cs h)))
 
     pub taken-within : taken (pages i) < page-count i
     unfolding pages

@@ -1,7 +1,7 @@
 -- Pages erased and given their wear words: what the pages are then, and that each step may be done. Assumes nothing.
-use Prim.Native.Nat.{ℕ, zero, suc, _+_, _≤_, _<_}
+use Prim.Native.Nat.{ℕ, suc}
 use mathlib.Core.Path.{_≡_, refl, sym, ap, _∙_, subst}
-use mathlib.Core.Bool.{Bool, true, false, cond}
+use mathlib.Core.Bool.{Bool, cond}
 use mathlib.Core.List.{List, [], _∷_, _++_, map}
 use native.Mathlib.Omega.{arith}
 use lib.ListN.{length, length-append, replicate}
@@ -13,8 +13,8 @@ use Rattle.rules.specs.Steps.{renew, renew-all, format-steps, renewed-we
 use Rattle.rules.proofs.Truth.{by-cases}
 use Rattle.rules.proofs.Words.{wear-sound, opening-sound}
 use Rattle.rules.proofs.Shape.{target, page-after, store-after}
-use Rattle.rules.proofs.Phases.{Pages, Through, Fits, end, step, store-run, store-run-append, through-append, after-amid, here-fits, word-through, word-run}
-use Rattle.rules.proofs.Building.{Any}
+use Rattle.rules.proofs.Phases.{Pages, Fits, end, step, store-run, store-run-append, through-append, after-amid, here-fits, word-run}
+use Rattle.rules.proofs.Building.{Doable, word-any}
 
 -- a renewed page
 abbrev pub fresh : (edition k′ wear : ℕ) → List Word
@@ -23,7 +23,8 @@ fresh edition k′ wear = wear-word edition wear ∷ replicate k′ blank-word
 -- the pages as renewed
 unfoldable pub renewed : (edition k′ : ℕ) → (ℕ → State → Bool) → ℕ → Pages → Pages
 renewed edition k′ picks i [] = []
-renewed edition k′ picks i (pg ∷ F) = cond (picks i (state edition pg)) (fresh edition k′ (renewed-wear (wear-in edition pg))) pg ∷ renewed edition k′ picks (suc i) F
+renewed edition k′ picks i (pg ∷ F) = cond (picks i (state edition pg)) (fresh edition k′ (renewed-wear (wear-in edition pg))) pg
+    ∷ renewed edition k′ picks (suc i) F
 
 pub next-length : (f : Pages) (qg : List Word) → length (f ++ qg ∷ []) ≡ suc (length f)
 next-length f qg = let e = length-append f (qg ∷ []) in omega arith
@@ -65,11 +66,11 @@ module _ (edition k′ : ℕ) (picks : ℕ → State → Bool) where
 -- ---- format, of whatever stood there
 
 module _ (edition k′ : ℕ) where
-  renew-any : (f : Pages) (pg : List Word) (r : Pages) (wear : ℕ) → Through (suc k′) Any (renew edition (length f) wear) (f ++ pg ∷ r)
+  renew-any : (f : Pages) (pg : List Word) (r : Pages) (wear : ℕ) → Doable (suc k′) (renew edition (length f) wear) (f ++ pg ∷ r)
   unfolding renew Fits
   renew-any f pg r wear =
-      let rest = word-through (suc k′) f r [] (replicate k′ blank-word) Any (wear-word edition wear) (wear-sound edition wear) (λ v l. tt) in
-      step (here-fits (suc k′) f pg r) tt (λ G x. tt) (subst (Through (suc k′) Any _) (sym (erased edition k′ f pg r wear)) rest)
+      let rest = word-any (suc k′) f r [] (replicate k′ blank-word) (wear-word edition wear) (wear-sound edition wear) in
+      step (here-fits (suc k′) f pg r) tt (λ may G x. tt) (subst (Doable (suc k′) _) (sym (erased edition k′ f pg r wear)) rest)
 
   abbrev all-fresh : Pages → Pages
   all-fresh r = replicate (length r) (fresh edition k′ 1)
@@ -83,14 +84,14 @@ module _ (edition k′ : ℕ) where
       ∙ ap (store-run (suc k′) (renew-all edition (suc (length f)) (length r))) (renew-run edition k′ f pg r 1)
       ∙ (rw (next-length f q, append-snoc f q r, append-snoc f q (all-fresh r)) at (renew-all-run (f ++ q ∷ []) r))
 
-  renew-all-through : (f r : Pages) → Through (suc k′) Any (renew-all edition (length f) (length r)) (f ++ r)
+  renew-all-through : (f r : Pages) → Doable (suc k′) (renew-all edition (length f) (length r)) (f ++ r)
   unfolding renew-all
   renew-all-through f [] = end tt
   renew-all-through f (pg ∷ r) =
       let q = fresh edition k′ 1 in
       let later = renew-all edition (suc (length f)) (length r) in
-      through-append (suc k′) later (renew-any f pg r 1)
-      (subst (Through (suc k′) Any later) (sym (renew-run edition k′ f pg r 1)) (rw (next-length f q, append-snoc f q r) at (renew-all-through (f ++ q ∷ []) r)))
+      through-append later (renew-any f pg r 1)
+      (subst (Doable (suc k′) later) (sym (renew-run edition k′ f pg r 1)) (rw (next-length f q, append-snoc f q r) at (renew-all-through (f ++ q ∷ []) r)))
 
 module _ (edition m : ℕ) where
   -- page 0, and the others
@@ -105,11 +106,13 @@ module _ (edition m : ℕ) where
   format-run pg r =
       store-run-append (suc (suc (suc m))) (renew-all edition 0 (suc (length r))) (word-steps 0 opening-place (opening-word 1 0)) (pg ∷ r)
       ∙ ap (store-run (suc (suc (suc m))) (word-steps 0 opening-place (opening-word 1 0))) (renew-all-run edition (suc (suc m)) [] (pg ∷ r))
-      ∙ word-run (suc (suc (suc m))) [] (replicate (length r) (fresh edition (suc (suc m)) 1)) (wear-word edition 1 ∷ []) (replicate (suc m) blank-word) (opening-word 1 0)
+      ∙ word-run (suc (suc (suc m))) [] (replicate (length r) (fresh edition (suc (suc m)) 1)) (wear-word edition 1 ∷ [])
+      (replicate (suc m) blank-word) (opening-word 1 0)
 
-  pub format-through : (pg : List Word) (r : Pages) → Through (suc (suc (suc m))) Any (format-steps edition (suc (length r))) (pg ∷ r)
+  pub format-through : (pg : List Word) (r : Pages) → Doable (suc (suc (suc m))) (format-steps edition (suc (length r))) (pg ∷ r)
   unfolding format-steps
   format-through pg r =
-      through-append (suc (suc (suc m))) (word-steps 0 opening-place (opening-word 1 0)) (renew-all-through edition (suc (suc m)) [] (pg ∷ r))
-      (subst (Through (suc (suc (suc m))) Any (word-steps 0 opening-place (opening-word 1 0))) (sym (renew-all-run edition (suc (suc m)) [] (pg ∷ r)))
-      (word-through (suc (suc (suc m))) [] (replicate (length r) (fresh edition (suc (suc m)) 1)) (wear-word edition 1 ∷ []) (replicate (suc m) blank-word) Any (opening-word 1 0) (opening-sound 1 0) (λ v l. tt)))
+      through-append (word-steps 0 opening-place (opening-word 1 0)) (renew-all-through edition (suc (suc m)) [] (pg ∷ r))
+      (subst (Doable (suc (suc (suc m))) (word-steps 0 opening-place (opening-word 1 0))) (sym (renew-all-run edition (suc (suc m)) [] (pg ∷ r)))
+      (word-any (suc (suc (suc m))) [] (replicate (length r) (fresh edition (suc (suc m)) 1)) (wear-word edition 1 ∷ []) (replicate (suc m) blank-word)
+      (opening-word 1 0) (opening-sound 1 0)))

@@ -30,7 +30,8 @@ pub data WordsRise : List Word → List Word → Type 0 where
 
 -- what a failing step may leave of its page
 pub data PageFails : Step → List Word → List Word → Type 0 where
-  half-way : {p w low high : ℕ} {h : Half} {pg qg : List Word} (low′ high′ : ℕ) → Rises 8 low low′ → Rises 8 high high′ → qg ≡ set pg w (with-half h (getD pg w blank-word) low′ high′) → PageFails (program p w h low high) pg qg
+  half-way : {p w low high : ℕ} {h : Half} {pg qg : List Word} (low′ high′ : ℕ) → Rises 8 low low′ → Rises 8 high high′
+      → qg ≡ set pg w (with-half h (getD pg w blank-word) low′ high′) → PageFails (program p w h low high) pg qg
   erasing : {p : ℕ} {pg qg : List Word} → WordsRise pg qg → PageFails (erase p) pg qg
 
 -- the pages after a step, and what a failing step may leave

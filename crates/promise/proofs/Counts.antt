@@ -1,0 +1,211 @@
+-- How many steps the calls have, and how many of them are erases. Assumes nothing.
+use Prim.Native.Nat.{ℕ, zero, suc, _+_, _-_, _*_, _≤_, _<_}
+use mathlib.Core.Path.{_≡_, refl, ap, _∙_}
+use mathlib.Core.Bool.{true, false}
+use mathlib.Core.List.{List, [], _∷_, _++_}
+use native.Mathlib.Omega.{arith}
+use lib.ListN.{length, length-append, length-map}
+use lib.Dec.{eqb, leb}
+use borrow.Author.Tests.{eqb-true, eqb-false, ne-eqb, leb-false}
+use Rattle.rules.specs.Flash.{Step, program, erase}
+use Rattle.rules.specs.Word.{Word, word, wear-word, opening-word, done-word, record-word, word-steps}
+use Rattle.rules.specs.Page.{Page, page, wear-place, opening-place, done-place, slot-place}
+use Rattle.rules.specs.Store.{Setting, setting, states, is-cleared, active-index, active-slots, free-slot, count, journal, put-all, settings, held, value}
+use Rattle.rules.specs.Steps.{Way, stay, append-to, open-at, move-to, renew, renew-all, format-steps, renewed-wear, add-steps, renewals, other}
+use Rattle.rules.specs.Steps.{copies, copy-steps, append-steps, open-steps, fill-steps, move-steps, taken, next-order, has-free-slot, is-value}
+use Rattle.rules.specs.Steps.{new-page, way, way-steps, write-steps}
+use Rattle.rules.specs.Call.{page-size, page-edition, cut, page-count, pages, is-held, no-room, write-number, OK}
+use Rattle.rules.proofs.Truth.{by-cases, not-both}
+use Rattle.rules.proofs.Cut.{pages-long}
+use Rattle.rules.proofs.Settings.{copies-length}
+use Rattle.rules.proofs.Rows.{write-fails}
+use Rattle.rules.proofs.Ready.{taken-within}
+use Rattle.rules.proofs.Held.{held-few}
+use Rattle.promise.specs.Calls.{Image}
+use Rattle.promise.specs.Corollaries.{erases, moves, a-move-wears-all-but-one, another-write-wears-none, no-write-is-longer}
+
+-- ---- erases
+
+erases-append : (xs ys : List Step) → erases (xs ++ ys) ≡ erases xs + erases ys
+unfolding erases
+erases-append [] ys = omega arith
+erases-append (program p w h low high ∷ xs) ys = erases-append xs ys
+erases-append (erase p ∷ xs) ys = let e = erases-append xs ys in omega arith
+
+-- where nothing is erased in xs
+erases-after : (xs ys : List Step) → erases xs ≡ 0 → erases (xs ++ ys) ≡ erases ys
+erases-after xs ys e = let f = erases-append xs ys in omega arith
+
+erases-none : (xs ys : List Step) → erases xs ≡ 0 → erases ys ≡ 0 → erases (xs ++ ys) ≡ 0
+erases-none xs ys p q = erases-after xs ys p ∙ q
+
+erases-word : (p at : ℕ) (w : Word) → erases (word-steps p at w) ≡ 0
+unfolding erases word-steps
+erases-word p at (word a b c d) = refl
+
+erases-copies : (p k : ℕ) (rs : List Setting) → erases (copy-steps p k rs) ≡ 0
+unfolding erases copy-steps
+erases-copies p k [] = refl
+erases-copies p k (setting a v ∷ rs) =
+    erases-none (word-steps p (slot-place k) (record-word a v)) (copy-steps p (suc k) rs)
+    (erases-word p (slot-place k) (record-word a v)) (erases-copies p (suc k) rs)
+
+erases-renew : (edition k n : ℕ) (ss : List Step) → erases (renew edition k n ++ ss) ≡ suc (erases ss)
+unfolding erases renew
+erases-renew edition k n ss = ap suc (erases-after (word-steps k wear-place (wear-word edition n)) ss (erases-word k wear-place (wear-word edition n)))
+
+erases-past : (edition t k : ℕ) (ps : List Page) → t < k → erases (renewals edition (other t) k ps) ≡ length ps
+unfolding erases renewals add-steps other
+erases-past edition t k [] l = refl
+erases-past edition t k (p ∷ ps) l =
+    rw (ne-eqb k t (λ e. omega arith)) (erases-renew edition k (renewed-wear (p .wear)) _ ∙ ap suc (erases-past edition t (suc k) ps (omega arith)))
+
+erases-others : (edition t k : ℕ) (ps : List Page) → k ≤ t → t < k + length ps → erases (renewals edition (other t) k ps) + 1 ≡ length ps
+unfolding erases renewals add-steps other
+erases-others edition t k [] l h = absurd (omega arith)
+erases-others edition t k (p ∷ ps) l h =
+    by-cases (eqb k t)
+    (λ e. let z = eqb-true k t e in let r = erases-past edition t (suc k) ps (omega arith) in rw e (omega arith))
+    (λ e.
+    let z = eqb-false k t e in
+    let ne : k ≡ t → ⊥ = z in
+    let lt : suc k ≤ t = omega arith in
+    let r = erases-others edition t (suc k) ps lt (omega arith) in
+    let n = erases-renew edition k (renewed-wear (p .wear)) (renewals edition (other t) (suc k) ps) in
+    rw e (omega arith))
+
+-- a move to one of the pages
+move-erases : (edition p o : ℕ) (rs : List Setting) (ps : List Page) → p < length ps → erases (move-steps edition p o rs ps) + 1 ≡ length ps
+unfolding move-steps fill-steps
+move-erases edition p o rs ps l =
+    let rest = renewals edition (other p) 0 ps in
+    let done = word-steps p done-place (done-word o) in
+    let copied = copy-steps p 0 rs in
+    let opened = word-steps p opening-place (opening-word 2 o) in
+    let none-yet : erases (opened ++ copied ++ done) ≡ 0 =
+    erases-none (opened ++ copied) done (erases-none opened copied (erases-word p opening-place (opening-word 2 o)) (erases-copies p 0 rs))
+    (erases-word p done-place (done-word o)) in
+    ap (λ (n : ℕ). n + 1) (erases-after (opened ++ copied ++ done) rest none-yet) ∙ erases-others edition p 0 ps (omega arith) (omega arith)
+
+-- a write that moves, moves to the page that is taken
+move-is : (a v : ℕ) (ps : List Page) → moves (way a v ps) ≡ true → way a v ps ≡ move-to (taken ps) (next-order ps)
+unfolding way new-page moves
+move-is a v ps m =
+    by-cases (is-value (value a ps) v) (λ e. not-both m (rw e))
+    (λ e. by-cases (has-free-slot ps) (λ f. not-both m (rw (e, f)))
+    (λ f. by-cases (leb 2 (count is-cleared (states ps))) (λ c. not-both m (rw (e, f, c))) (λ c. rw (e, f, c))))
+
+pub move-wears : a-move-wears-all-but-one
+unfolding write-steps way-steps
+move-wears i a v ok m =
+    let fails = write-fails i a v ok in
+    let l = taken-within i (fails .stored) (fails .clean) in
+    let ps = pages i in
+    rw (move-is a v ps m) (move-erases page-edition (taken ps) (next-order ps) (copies a v ps) ps (rw (pages-long i) l) ∙ pages-long i)
+
+-- the other ways
+way-erases : (edition a v : ℕ) (ps : List Page) (w : Way) → moves w ≡ false → erases (way-steps edition a v ps w) ≡ 0
+unfolding way-steps append-steps open-steps moves erases
+way-erases edition a v ps stay m = refl
+way-erases edition a v ps (append-to p k) m = erases-word p (slot-place k) (record-word a v)
+way-erases edition a v ps (open-at p o) m =
+    erases-none (word-steps p opening-place (opening-word 1 o)) (word-steps p (slot-place 0) (record-word a v)) (erases-word p opening-place (opening-word 1 o))
+    (erases-word p (slot-place 0) (record-word a v))
+way-erases edition a v ps (move-to p o) m = not-both refl m
+
+pub others-wear-none : another-write-wears-none
+unfolding write-steps
+others-wear-none i a v m = way-erases page-edition a v (pages i) (way a v (pages i)) m
+
+-- ---- lengths
+
+word-length : (p at : ℕ) (w : Word) → length (word-steps p at w) ≡ 2
+unfolding word-steps
+word-length p at (word a b c d) = refl
+
+copies-long : (p k : ℕ) (rs : List Setting) → length (copy-steps p k rs) ≡ 2 * length rs
+unfolding copy-steps
+copies-long p k [] = refl
+copies-long p k (setting a v ∷ rs) =
+    let w = record-word a v in
+    omega (arith, length-append (word-steps p (slot-place k) w) (copy-steps p (suc k) rs), word-length p (slot-place k) w, copies-long p (suc k) rs)
+
+-- a page is renewed in three steps, of which one erases
+renew-long : (edition k n : ℕ) (ss : List Step) → length (renew edition k n ++ ss) ≡ 3 + length ss
+unfolding renew
+renew-long edition k n ss = omega (arith, length-append (word-steps k wear-place (wear-word edition n)) ss, word-length k wear-place (wear-word edition n))
+
+renewals-long : (edition t k : ℕ) (ps : List Page) → length (renewals edition (other t) k ps) ≡ 3 * erases (renewals edition (other t) k ps)
+unfolding renewals add-steps other erases
+renewals-long edition t k [] = refl
+renewals-long edition t k (p ∷ ps) =
+    let ss = renewals edition (other t) (suc k) ps in
+    let n = renewed-wear (p .wear) in
+    let rest = renewals-long edition t (suc k) ps in
+    by-cases (eqb k t) (λ e. rw e rest) (λ e. rw e (omega (arith, renew-long edition k n ss, erases-renew edition k n ss)))
+
+pub move-long : (edition p o : ℕ) (rs : List Setting) (ps : List Page) → p < length ps
+    → length (move-steps edition p o rs ps) ≡ 4 + 2 * length rs + 3 * (length ps - 1)
+unfolding move-steps fill-steps
+move-long edition p o rs ps l =
+    let opened = word-steps p opening-place (opening-word 2 o) in
+    let copied = copy-steps p 0 rs in
+    let done = word-steps p done-place (done-word o) in
+    omega (
+      arith,
+      length-append opened copied,
+      length-append (opened ++ copied) done,
+      length-append (opened ++ copied ++ done) (renewals edition (other p) 0 ps),
+      word-length p opening-place (opening-word 2 o),
+      copies-long p 0 rs,
+      word-length p done-place (done-word o),
+      renewals-long edition p 0 ps,
+      erases-others edition p 0 ps (omega arith) (omega arith),
+    )
+
+renew-all-long : (edition k n : ℕ) → length (renew-all edition k n) ≡ 3 * n
+unfolding renew-all
+renew-all-long edition k zero = refl
+renew-all-long edition k (suc n) = omega (arith, renew-long edition k 1 (renew-all edition (suc k) n), renew-all-long edition (suc k) n)
+
+pub format-long : (edition n : ℕ) → length (format-steps edition n) ≡ 3 * n + 2
+unfolding format-steps
+format-long edition n =
+    let w = opening-word 1 0 in
+    omega (arith, length-append (renew-all edition 0 n) (word-steps 0 opening-place w), renew-all-long edition 0 n, word-length 0 opening-place w)
+
+-- no more is copied than may be held
+copies-few : (a v : ℕ) (i : Image) → write-number a v i ≡ OK → is-value (value a (pages i)) v ≡ false → length (copies a v (pages i)) ≤ 192
+unfolding copies settings value no-room is-held held
+copies-few a v i ok s =
+    let fails = write-fails i a v ok in
+    let J = journal (pages i) in
+    copies-length a v J 192 (held-few i (fails .stored))
+    (λ e.
+    let r : leb 192 (length (put-all [] J)) ≡ false = rw e at (fails .room s) in
+    leb-false 192 (length (put-all [] J)) r)
+
+pub not-longer : no-write-is-longer
+unfolding write-steps way way-steps new-page append-steps open-steps
+not-longer i a v ok =
+    let ps = pages i in
+    by-cases (is-value (value a ps) v) (λ s. rw s (omega arith))
+    (λ s.
+    by-cases (has-free-slot ps)
+    (λ f. rw (s, f) (omega (arith, word-length (active-index (states ps)) (slot-place (free-slot (active-slots ps))) (record-word a v))))
+    (λ f.
+    by-cases (leb 2 (count is-cleared (states ps)))
+    (λ c.
+    let w = opening-word 1 (next-order ps) in
+    rw (s, f, c)
+    (omega (
+      arith,
+      length-append (word-steps (taken ps) opening-place w) (word-steps (taken ps) (slot-place 0) (record-word a v)),
+      word-length (taken ps) opening-place w,
+      word-length (taken ps) (slot-place 0) (record-word a v),
+    )))
+    (λ c.
+    let fails = write-fails i a v ok in
+    let many = pages-long i in
+    let inside = taken-within i (fails .stored) (fails .clean) in
+    rw (s, f, c) (omega (arith, move-long page-edition (taken ps) (next-order ps) (copies a v ps) ps (omega arith), copies-few a v i ok s)))))

@@ -1,0 +1,74 @@
+-- The calls as the promise sees them: which outcomes of each are possible. The rules are one such set of calls, the exported
+-- functions are another.
+use Prim.Native.Nat.{ℕ, suc, _≤_}
+use mathlib.Core.Path.{_≡_}
+use mathlib.Core.Bool.{cond, not}
+use mathlib.Core.List.{List, [], _∷_}
+use lib.Dec.{eqb}
+use Rattle.rules.specs.Call.{OK, Formatted, Stepped, Reading, Pairing, among, format, recover, write, read, blank-read, lookup}
+
+abbrev pub Image : Type 0
+Image = List ℕ
+
+-- The calls that only look, as questions: read, blank read and pairing lookup.
+pub data Question : Type 0 where
+  value-at blank-value-at : (address : ℕ) → Question
+  pairing-code : Question
+
+abbrev pub Answer : Question → Type 0
+Answer (value-at x) = Reading
+Answer (blank-value-at x) = Reading
+Answer pairing-code = Pairing
+
+-- the addresses that a question asks for
+abbrev pub Asks : Question → ℕ → Type 0
+Asks (value-at x) a = x ≡ a
+Asks (blank-value-at x) a = x ≡ a
+Asks pairing-code a = (16 ≤ a) × (a ≤ 19)
+
+-- the answer of a read that finds v, and of a lookup that shows these digits
+abbrev pub finds : ℕ → Reading
+finds v = record { number = OK; value = v }
+
+abbrev pub shows : List ℕ → Pairing
+shows digits = record { number = OK; paired = not (among 255 digits); digits = digits }
+
+-- the digits of the addresses from x on, with v for that of address a
+unfoldable pub put-digit : (a v x : ℕ) → List ℕ → List ℕ
+put-digit a v x [] = []
+put-digit a v x (d ∷ ds) = cond (eqb x a) v d ∷ put-digit a v (suc x) ds
+
+-- an answer with v in it as the value of a, and otherwise as it was
+unfoldable pub with-value : (a v : ℕ) (q : Question) → Answer q → Answer q
+with-value a v (value-at x) r = cond (eqb x a) (finds v) r
+with-value a v (blank-value-at x) r = cond (eqb x a) (finds v) r
+with-value a v pairing-code r = shows (put-digit a v 16 (r .digits))
+
+-- Which outcome of a call is possible, by the image at the call.
+pub record Calls : Type 1 where
+  pub Formats : Image → Formatted → Type 0
+  pub Recovers : (allowance : ℕ) → Image → Stepped → Type 0
+  pub Writes : (address value allowance : ℕ) → Image → Stepped → Type 0
+  pub Answers : (q : Question) → Image → Answer q → Type 0
+
+-- what the rules answer
+unfoldable pub answer : (q : Question) → Image → Answer q
+answer (value-at x) i = read x i
+answer (blank-value-at x) i = blank-read x i
+answer pairing-code i = lookup i
+
+abbrev pub by-the-rules : Calls
+by-the-rules =
+    record {
+      Formats = λ i f. f ≡ format i;
+      Recovers = λ n i s. s ≡ recover n i;
+      Writes = λ a v n i s. s ≡ write a v n i;
+      Answers = λ q i r. r ≡ answer q i;
+    }
+
+-- calls that do only what the rules say
+pub record Obeys (C : Calls) : Type 0 where
+  pub formats : (i : Image) (f : Formatted) → C .Formats i f → f ≡ format i
+  pub recovers : (n : ℕ) (i : Image) (s : Stepped) → C .Recovers n i s → s ≡ recover n i
+  pub writes : (a v n : ℕ) (i : Image) (s : Stepped) → C .Writes a v n i s → s ≡ write a v n i
+  pub answers : (q : Question) (i : Image) (r : Answer q) → C .Answers q i r → r ≡ answer q i

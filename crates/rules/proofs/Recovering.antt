@@ -1,0 +1,124 @@
+-- Recovery, and the tail of a move: pages that are not used are renewed, and the store keeps its journal. Assumes nothing.
+use Prim.Native.Nat.{ℕ, suc}
+use mathlib.Core.Path.{_≡_, refl, sym, ap, _∙_, subst}
+use mathlib.Core.Logic.{inr}
+use mathlib.Core.Bool.{Bool, true, false, not}
+use mathlib.Core.List.{List, [], _∷_, _++_}
+use native.Mathlib.Omega.{arith}
+use lib.ListN.{length, replicate, length-replicate}
+use lib.Seq.{append-snoc}
+use borrow.Author.Tests.{not-true}
+use Rattle.rules.specs.Flash.{erase}
+use Rattle.rules.specs.Word.{Word, wear-word}
+use Rattle.rules.specs.Page.{blank-word, State, page, state, wear-in}
+use Rattle.rules.specs.Store.{states, base, used, is-cleared, count, Setting}
+use Rattle.rules.specs.Steps.{renew, renewed-wear, add-steps, renewals, unclean, recovery-steps}
+use Rattle.rules.proofs.Truth.{by-cases, or-second, or-false-left}
+use Rattle.rules.proofs.Words.{Light, wear-sound}
+use Rattle.rules.proofs.Shape.{target, WordsRise, PageFails, erasing}
+use Rattle.rules.proofs.Pages.{AllLight, replicate-light, rise-light, rise-length, rise-fades, fresh-not-open, fresh-cleared}
+use Rattle.rules.proofs.Phases.{Pages, end, step, store-run, through-end, through-append, through-map, fails-amid, word-through, Fits, here-fits}
+use Rattle.rules.proofs.Told.{told}
+use Rattle.rules.proofs.Renewing.{fresh, renewed, next-length, erased, renew-run, renewals-run, rest-steps}
+use Rattle.rules.proofs.Good.{Frame, words-in, Throughout, Keeps, Good, whole-amid, keeps-fade, good-still}
+
+erase-fails : {p : ℕ} {pg qg : List Word} → PageFails (erase p) pg qg → WordsRise pg qg
+erase-fails (erasing r) = r
+
+-- the pages that are picked are not used
+unfoldable pub Idle : (edition b : ℕ) → (ℕ → State → Bool) → ℕ → Pages → Type 0
+Idle edition b picks i [] = Unit {0}
+Idle edition b picks i (pg ∷ F) = (picks i (state edition pg) ≡ true → used b (state edition pg) ≡ false) × Idle edition b picks (suc i) F
+
+module _ (c : Frame) (b : ℕ) (os : List ℕ) (J : List Setting) where
+  -- the words of a page behind the first
+  abbrev k′ : ℕ
+  k′ = suc (suc (suc (c .last-slot)))
+
+  abbrev Keeping : Pages → Type 0
+  Keeping = Keeps c b os J
+
+  renew-through : (f : Pages) (pg : List Word) (r : Pages) (wear : ℕ) → used b (state (c .edition) pg) ≡ false → Keeping (f ++ pg ∷ r)
+      → Throughout c Keeping (renew (c .edition) (length f) wear) (f ++ pg ∷ r)
+  unfolding renew target AllLight Fits
+  renew-through f pg r wear u h =
+      let w = whole-amid c f pg r (h .whole) .1 in
+      let started : (v : Word) → Light v → Keeping (f ++ (v ∷ replicate k′ blank-word) ∷ r) =
+      λ v l. keeps-fade c b os J f pg r h (v ∷ replicate k′ blank-word) u (inr (fresh-not-open (c .edition) v k′))
+      (ap suc (length-replicate k′ blank-word), λ may. (l, replicate-light k′)) in
+      let rest = word-through (words-in c) f r [] (replicate k′ blank-word) (c .May) Keeping
+      (wear-word (c .edition) wear) (wear-sound (c .edition) wear) started in
+      step (here-fits (words-in c) f pg r) h
+      (λ may G x.
+      let y = fails-amid (words-in c) f pg r (erase (length f)) G refl x in
+      let rise = erase-fails (y .1) in
+      let light = w .1 may in
+      subst Keeping (sym (y .2))
+      (keeps-fade c b os J f pg r h (y .0) u (rise-fades (c .edition) rise light) (sym (rise-length rise) ∙ w .0, λ may. rise-light rise light)))
+      (subst (Throughout c Keeping _) (sym (erased (c .edition) k′ f pg r wear)) rest)
+
+  module _ (picks : ℕ → State → Bool) where
+    onward-through : (f : Pages) (qg : List Word) (F : Pages)
+        → Throughout c Keeping (rest-steps (c .edition) k′ picks (length (f ++ qg ∷ [])) F) ((f ++ qg ∷ []) ++ F)
+        → Throughout c Keeping (rest-steps (c .edition) k′ picks (suc (length f)) F) (f ++ qg ∷ F)
+    onward-through f qg F h = rw (next-length f qg, append-snoc f qg F) at h
+
+    pub renewals-through : (f F : Pages) → Idle (c .edition) b picks (length f) F → Keeping (f ++ F)
+        → Throughout c Keeping (renewals (c .edition) picks (length f) (told (c .edition) F)) (f ++ F)
+    unfolding renewals add-steps page Idle
+    renewals-through f [] i h = end h
+    renewals-through f (pg ∷ F) i h =
+        by-cases (picks (length f) (state (c .edition) pg))
+        (λ t.
+        let w = renewed-wear (wear-in (c .edition) pg) in
+        let qg = fresh (c .edition) k′ w in
+        let first = renew-through f pg F w (i .0 t) h in
+        let done = renew-run (c .edition) k′ f pg F w in
+        let kept : Keeping ((f ++ qg ∷ []) ++ F) = rw append-snoc (subst Keeping done (through-end first)) in
+        let rest = renewals-through (f ++ qg ∷ []) F (rw (next-length f qg) (i .1)) kept in
+        rw t (through-append (rest-steps (c .edition) k′ picks (suc (length f)) F) first
+        (subst (Throughout c Keeping _) (sym done) (onward-through f qg F rest))))
+        (λ t.
+        let rest = renewals-through (f ++ pg ∷ []) F (rw (next-length f pg) (i .1)) (rw append-snoc h) in
+        rw t (onward-through f pg F rest))
+
+-- ---- recovery
+
+idle-all : (edition b : ℕ) (picks : ℕ → State → Bool) → ((i : ℕ) (s : State) → picks i s ≡ true → used b s ≡ false)
+    → (i : ℕ) (F : Pages) → Idle edition b picks i F
+unfolding Idle
+idle-all edition b picks h i [] = tt
+idle-all edition b picks h i (pg ∷ F) = (h i (state edition pg), idle-all edition b picks h (suc i) F)
+
+-- no page is unclean once those are renewed that were
+module _ (edition k′ b : ℕ) where
+  fresh-clean : (n : ℕ) → unclean b (state edition (fresh edition k′ n)) ≡ false
+  unfolding unclean is-cleared
+  fresh-clean n = ap not (or-second (used b (state edition (fresh edition k′ n))) (rw (fresh-cleared edition n k′)))
+
+  renewed-clean : (i : ℕ) (F : Pages) → count (unclean b) (states (told edition (renewed edition k′ (λ i s. unclean b s) i F))) ≡ 0
+  unfolding count states renewed page
+  renewed-clean i [] = refl
+  renewed-clean i (pg ∷ F) =
+      by-cases (unclean b (state edition pg))
+      (λ u. let rest = renewed-clean (suc i) F in rw (u, fresh-clean (renewed-wear (wear-in edition pg))) (omega arith))
+      (λ u. let rest = renewed-clean (suc i) F in rw (u, u) (omega arith))
+
+module _ (c : Frame) (J : List Setting) (F : Pages) (g : Good c J F) where
+  -- no page that a recovery renews is used
+  keeping : Throughout c (Keeps c (g .base-order) (g .used-by) J) (recovery-steps (c .edition) (told (c .edition) F)) F
+  unfolding recovery-steps unclean
+  keeping =
+      renewals-through c (g .base-order) (g .used-by) J _ [] F
+      (idle-all (c .edition) (g .base-order) _ (λ i s t. rw (← g .keeps .is-base) (or-false-left (used _ s) (is-cleared s) (not-true _ t))) 0 F) (g .keeps)
+
+  pub recovery-through : Throughout c (Good c J) (recovery-steps (c .edition) (told (c .edition) F)) F
+  recovery-through = through-map (good-still c J F g J (g .few)) keeping
+
+  pub recovered-clean : let G = told (c .edition) (store-run (words-in c) (recovery-steps (c .edition) (told (c .edition) F)) F) in
+      count (unclean (base (states G))) (states G) ≡ 0
+  unfolding recovery-steps
+  recovered-clean =
+      let k′ = suc (suc (suc (c .last-slot))) in
+      let b = base (states (told (c .edition) F)) in
+      rw (through-end keeping .is-base ∙ sym (g .keeps .is-base), renewals-run (c .edition) k′ (λ i s. unclean b s) [] F) (renewed-clean (c .edition) k′ b 0 F)
