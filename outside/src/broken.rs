@@ -1,4 +1,4 @@
-//! Stores broken on purpose, most of them among the designs of document 01 that look sound and aren't. A test driver
+//! Stores broken on purpose, most of them among the designs that look sound and aren't. A test driver
 //! that lets one of them pass is worth nothing.
 
 use crate::page::*;

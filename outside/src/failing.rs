@@ -1,4 +1,4 @@
-//! The ways in which the tests let a step fail. Each is one that document 01 allows: only the choice of bits differs.
+//! The ways in which the tests let a step fail. Each is one that the rules allow (F6, F7): only the choice of bits differs.
 
 use crate::rng::Rng;
 use crate::steps::{do_step, fail_step, Step};

@@ -1,4 +1,4 @@
-//! The twelve examples of document 01, on every store at hand.
+//! The twelve examples of docs/FORMAT.md, on every store at hand.
 //!
 //! A broken store that these catch: one with an exclusive-or check (examples 1 to 4), see the last test.
 
@@ -254,7 +254,7 @@ fn example_12_the_listing() {
     });
 }
 
-/// The numbers of steps that the text of document 01 names.
+/// The numbers of steps that docs/FORMAT.md names.
 #[test]
 fn step_counts() {
     on_every_store(|store| {

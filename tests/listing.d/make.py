@@ -1,5 +1,5 @@
 #!/usr/bin/env python3
-"""Images for tests/listing, and their listings by a small model written from document 01.
+"""Images for tests/listing, and their listings by a small model written from the rules in words.
 
 make.py NAME     write that image to standard output
 make.py --store  write NAME.txt for each image, and NAME.bin for each of at most 4,096 bytes

@@ -1,2 +1,3 @@
-pub mod Active
-pub mod Ways
+-- Laws of the code's own, for its proofs.
+mod Candidates
+mod Ways

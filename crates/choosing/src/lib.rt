@@ -1,17 +1,27 @@
-// What a write does, chosen by one look at the image: 01, "Write" and the order of "Answers by number".
+// What a write does, chosen by what one look told: the way of a write, or the first test that refuses it.
+use pages::Form;
+use settings::HELD_MAX;
 use settings::Held;
-use store::Look;
+use settings::NO_ADDRESS;
 use store::Store;
+use survey::ADDRESS;
+use survey::NO_ROOM;
+use survey::OK;
+use survey::ORDER_END;
+use survey::ORDER_MAX;
+use survey::PAGES_MAX;
+use survey::UNCLEAN;
 ghost use mathlib.Core.Path.{_≡_};
-ghost use Prim.Native.Nat.{_≤_, _<_};
-ghost use Rattle.rules.specs.Call.{store-number};
-ghost use Rattle.store.specs.Look.{Looks};
-ghost use Rattle.store.specs.Opened.{Opens};
-ghost use Rattle.choosing.specs.Way.{way-for, Fitting};
-ghost use Rattle.choosing.specs.Room.{new-page-of, room-for, some-other};
+ghost use mathlib.Core.List.{List};
+ghost use Prim.Native.Nat.{ℕ, _<_};
+ghost use Rattle.rules.specs.Store.{better, index};
+ghost use Rattle.pages.specs.Read.{as-form};
+ghost use Rattle.store.specs.Opened.{Opens, Opened};
+ghost use Rattle.choosing.specs.Candidate.{offer, as-candidate, Plain, chosen};
+ghost use Rattle.choosing.specs.Way.{new-page-of, Chosen};
 
-// Refuse by a number; stay, the value being held already; program the record at a page and its place there, in words; open
-// a page with an order; move to a page with an order.
+// Refuse by a number; stay, the value being held already; program the record at a page and its slot there; open a page with an
+// order; move to a page with an order.
 pub enum Way {
     Refuse(u8),
     Stay,
@@ -20,80 +30,98 @@ pub enum Way {
     Move(usize, u32),
 }
 
-// "a page neither used nor cleared": fewer are used or cleared than there are.
-fn is_unclean(look: Look) -> bool
-    requires { ⌜ look .used ≤ 32 ⌝ }
-    ensures { λ r. ⌜ r ≡ some-other (look .count) (look .used) (look .spares) ⌝ }
+// A cleared page that may be taken; `spare` 0 says that there is none yet.
+pub struct Candidate {
+    pub index: usize,
+    pub spare: u32,
+}
+
+impl Candidate {
+    // The better of the candidate and the page at the index, offered by rising index: of least wear, and of equals the first.
+    fn or(self, index: usize, spare: u32) -> Candidate
+        ensures { λ r. ⌜ as-candidate r ≡ better (as-candidate self) (offer index spare) ⌝ }
+        ensures { λ r. ⌜ (Plain self → Plain r) ⌝ }
+    {
+        let best = self.spare;
+        if spare == 0 {
+            return self;
+        }
+        if best == 0 {
+            return Candidate { index, spare };
+        }
+        if spare < best {
+            return Candidate { index, spare };
+        }
+        self
+    }
+}
+
+// S10. The page that is taken: of the cleared ones that of least wear, and of equals the first.
+fn least_worn(spares: &[u32; PAGES_MAX]) -> Candidate
+    ensures { λ r. ⌜ as-candidate r ≡ chosen (now (spares .entry)) ⌝ }
+    ensures { λ r. ⌜ r .index ≡ index (chosen (now (spares .entry))) ⌝ }
 {
-    let spares = look.spares;
-    let cleared = ranks::count(&spares);
-    look.used + cleared < look.count
+    let mut best = Candidate { index: 0, spare: 0 };
+    let mut i = 0;
+    while i < PAGES_MAX {
+        best = best.or(i, spares[i]);
+        i += 1;
+    }
+    best
 }
 
 // A new page, since the active one, of that order, has no free slot: the last cleared page is moved to, any other is opened.
-fn new_page(spares: [u32; 32], order: u32) -> Way
+fn new_page(spares: &[u32; PAGES_MAX], cleared: usize, order: u32) -> Way
     requires { ⌜ order < 4194304 ⌝ }
-    ensures { λ r. ⌜ r ≡ new-page-of spares order ⌝ }
+    ensures { λ r. ⌜ r ≡ new-page-of (now (spares .entry)) cleared order ⌝ }
 {
-    if order == 4194303 {
-        return Way::Refuse(7);
+    if order == ORDER_MAX {
+        return Way::Refuse(ORDER_END);
     }
-    let taken = survey::least_worn(&spares);
-    let cleared = ranks::count(&spares);
+    let taken = least_worn(spares);
     if cleared < 2 {
         return Way::Move(taken.index, order + 1);
     }
     Way::Open(taken.index, order + 1)
 }
 
-// The place of a new record: the free slot of the active page, or a new page.
-fn room(image: &[u8], look: Look) -> Way
-    requires { ⌜ Looks (now image) look ⌝ }
-    requires { ⌜ store-number (now image) ≡ 0 ⌝ }
-    ensures { λ r. ⌜ r ≡ room-for (now (image .entry)) ⌝ }
-{
-    let ranks = look.ranks;
-    let active = ranks::newest_below(&ranks, 4194305);
-    let at = active * 1024;
-    let slots = at + 12;
-    let end = at + 1024;
-    let free = pages::free_slot(&image[slots..end]);
-    if free < 253 {
-        return Way::Append(active, 3 + free);
-    }
-    let spares = look.spares;
-    new_page(spares, ranks[active] - 1)
-}
-
-// What a write of the value at the address does to the image that the store was opened from.
-pub fn choose(image: &[u8], store: Store, address: u16, value: u8) -> Way
-    requires { ⌜ Opens (now image) store ⌝ }
-    ensures { λ r. ⌜ r ≡ way-for address value (now (image .entry)) ⌝ }
-    ensures { λ r. ⌜ Fitting r ⌝ }
+// What a write of the value at the address does to the image that the store and the table were opened from.
+pub fn choose<'a>(
+    store: Store,
+    form: Form,
+    addresses: &'a [u16; HELD_MAX],
+    values: &'a [u8; HELD_MAX],
+    address: u16,
+    value: u8,
+) -> Way
+    requires { ⌜ Opened (as-form form) store (now addresses) (now values) ⌝ }
+    ensures { λ r. ⌜ ((i : List ℕ) → Opens (as-form form) i store (now (addresses .entry)) (now (values .entry)) → Chosen (as-form form) address value i r) ⌝ }
 {
     let number = store.number;
-    if number != 0 {
+    if number != OK {
         return Way::Refuse(number);
     }
-    let look = store.look;
-    if is_unclean(look) {
-        return Way::Refuse(4);
+    if store.look.used + store.look.cleared < store.look.count {
+        return Way::Refuse(UNCLEAN);
     }
-    if address == 65535 {
-        return Way::Refuse(5);
+    if address == NO_ADDRESS {
+        return Way::Refuse(ADDRESS);
     }
-    let s = store.settings;
-    match settings::value_of(s, address) {
+    match settings::value_in(addresses, values, address) {
         Held::Value(held) => {
             if held == value {
                 return Way::Stay;
             }
         }
         Held::Nothing => {
-            if 192 <= s.held {
-                return Way::Refuse(6);
+            if HELD_MAX <= store.held {
+                return Way::Refuse(NO_ROOM);
             }
         }
     }
-    room(image, look)
+    if store.look.free < form.slots {
+        return Way::Append(store.look.active, store.look.free);
+    }
+    let spares = store.look.spares;
+    new_page(&spares, store.look.cleared, store.look.order)
 }

@@ -1,1 +1,2 @@
+-- That the examples are as the rules give them.
 pub mod Examples

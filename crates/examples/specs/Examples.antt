@@ -1,13 +1,13 @@
--- 01, "Examples", those picked P: a single table, under the one statement at its end.
+-- X: the examples, those proved together: a single table, under the one statement at its end.
 use Prim.Native.Nat.{ℕ}
 use mathlib.Core.Bool.{Bool, true, false, _&&_}
 use mathlib.Core.List.{List, [], _∷_}
 use lib.ListN.{replicate}
 use lib.Dec.{T, eqb}
 use Rattle.rules.specs.Word.{Word, word, Condition, Sound, Blank, Spoiled, condition, wear-word, opening-word, done-word, record-word, slot-condition}
-use Rattle.rules.specs.Call.{Stepped, Reading, format, recover, write, read, blank-read, lookup}
+use Rattle.rules.specs.Call.{this-form, Stepped, Reading, format, recover, write, read, blank-read, lookup}
 
--- a row: what the rules give, and what 01 prints
+-- a row: what the rules give, and what section X prints
 pub data Row : Type 0 where
   row : (given printed : List ℕ) → Row
 
@@ -21,7 +21,7 @@ unfoldable pub holds : List Row → Bool
 holds [] = true
 holds (row given printed ∷ rows) = same given printed && holds rows
 
--- how a row tells what it gives: a word by its bytes, its condition by a number, an answer by its fields in 01's order
+-- how a row tells what it gives: a word by its bytes, its condition by a number, an answer by its fields in the order of section C
 unfoldable pub bytes : Word → List ℕ
 bytes (word a b c d) = a ∷ b ∷ c ∷ d ∷ []
 
@@ -53,8 +53,8 @@ empty-flash n = replicate n 0xFF
 -- the numbers that all calls give, as a call of each on an image
 unfoldable pub numbers : List ℕ → List ℕ
 numbers i =
-    format i .number ∷ recover 65535 i .number ∷ write 0 0 65535 i .number ∷ read 0 i .number ∷ blank-read 0 i .number
-    ∷ lookup i .number ∷ []
+    format this-form i .number ∷ recover this-form 65535 i .number ∷ write this-form 0 0 65535 i .number
+    ∷ read this-form 0 i .number ∷ blank-read this-form 0 i .number ∷ lookup this-form i .number ∷ []
 
 -- the rows; two-pages is the image of two formatted pages
 unfoldable pub rows : (two-pages : List ℕ) → List Row
@@ -83,20 +83,20 @@ rows two-pages =
     ∷ row (numbers (empty-flash 1024)) (1 ∷ 1 ∷ 1 ∷ 1 ∷ 1 ∷ 1 ∷ [])
     ∷ row (numbers (empty-flash 2049)) (1 ∷ 1 ∷ 1 ∷ 1 ∷ 1 ∷ 1 ∷ [])
     ∷ row (numbers (empty-flash 33792)) (1 ∷ 1 ∷ 1 ∷ 1 ∷ 1 ∷ 1 ∷ [])
-    -- 7. 2,048 bytes of 255: NO STORE, but to format. Formatted two pages, read 0: NOT HELD; blank read 255.
+    -- 7. 2,048 bytes of 255: NO STORE, but to format. Formatted two pages, read this-form 0: NOT HELD; blank read this-form 255.
     ∷ row (numbers (empty-flash 2048)) (0 ∷ 2 ∷ 2 ∷ 2 ∷ 2 ∷ 2 ∷ [])
-    ∷ row (said (read 0 two-pages)) (8 ∷ 0 ∷ [])
-    ∷ row (said (blank-read 0 two-pages)) (0 ∷ 255 ∷ [])
+    ∷ row (said (read this-form 0 two-pages)) (8 ∷ 0 ∷ [])
+    ∷ row (said (blank-read this-form 0 two-pages)) (0 ∷ 255 ∷ [])
     -- 8. Write (5, 65), allowance 1: 1 step, unfinished, 5 not held. Allowance 2 instead: finished, 65.
-    ∷ row (did (write 5 65 1 two-pages)) (0 ∷ 1 ∷ 0 ∷ [])
-    ∷ row (said (read 5 (write 5 65 1 two-pages .image))) (8 ∷ 0 ∷ [])
-    ∷ row (did (write 5 65 2 two-pages)) (0 ∷ 2 ∷ 1 ∷ [])
-    ∷ row (said (read 5 (write 5 65 2 two-pages .image))) (0 ∷ 65 ∷ [])
+    ∷ row (did (write this-form 5 65 1 two-pages)) (0 ∷ 1 ∷ 0 ∷ [])
+    ∷ row (said (read this-form 5 (write this-form 5 65 1 two-pages .image))) (8 ∷ 0 ∷ [])
+    ∷ row (did (write this-form 5 65 2 two-pages)) (0 ∷ 2 ∷ 1 ∷ [])
+    ∷ row (said (read this-form 5 (write this-form 5 65 2 two-pages .image))) (0 ∷ 65 ∷ [])
     ∷ []
 
 unfoldable pub table : List Row
-table = rows (format (empty-flash 2048) .image)
+table = rows (format this-form (empty-flash 2048) .image)
 
--- the statement: every row is as 01 prints it
+-- the statement: every row is as section X prints it
 abbrev pub the-examples-hold : Type 0
 the-examples-hold = T (holds table)

@@ -1,1 +1,2 @@
+-- The examples of docs/FORMAT.md.
 pub mod Examples

@@ -1,1 +1,1 @@
-// The examples of document 01 that are picked P, shown of the rules as a single table, in specs/Examples.antt.
+// The examples of docs/FORMAT.md that are proved of the rules, as a single table, in specs/Examples.antt.

@@ -49,14 +49,16 @@ pub may-program : (o k : ℕ) (xs : List ℕ) (a b : ℕ) → 2 ≤ k → take 2
 may-program o k xs a b h e = take-take 2 k (drop o xs) h ∙ e
 
 -- what `program` ensures of the part, said of the image
-pub programmed : (o k : ℕ) (xs ys : List ℕ) (low high : ℕ) → 2 ≤ k → o + k ≤ length xs → ys ≡ sets (midOf o k xs) 0 (low ∷ high ∷ []) → putMid o k xs ys ≡ sets xs o (low ∷ high ∷ [])
+pub programmed : (o k : ℕ) (xs ys : List ℕ) (low high : ℕ) → 2 ≤ k → o + k ≤ length xs → ys ≡ sets (midOf o k xs) 0 (low ∷ high ∷ [])
+    → putMid o k xs ys ≡ sets xs o (low ∷ high ∷ [])
 programmed o k xs ys low high h g e = ap (λ (zs : List ℕ). putMid o k xs zs) e ∙ lent-sets o k xs (low ∷ high ∷ []) h g
 
 -- the same of `&mut xs[o..]`
 pub may-program-rest : (o : ℕ) (xs : List ℕ) (a b : ℕ) → take 2 (drop o xs) ≡ a ∷ b ∷ [] → take 2 (midOf o (length xs - o) xs) ≡ a ∷ b ∷ []
 may-program-rest o xs a b e = may-program o (length xs - o) xs a b (omega (arith, two-past o xs a b e)) e
 
-pub programmed-rest : (o : ℕ) (xs ys : List ℕ) (low high : ℕ) → o + 2 ≤ length xs → ys ≡ sets (midOf o (length xs - o) xs) 0 (low ∷ high ∷ []) → putMid o (length xs - o) xs ys ≡ sets xs o (low ∷ high ∷ [])
+pub programmed-rest : (o : ℕ) (xs ys : List ℕ) (low high : ℕ) → o + 2 ≤ length xs → ys ≡ sets (midOf o (length xs - o) xs) 0 (low ∷ high ∷ [])
+    → putMid o (length xs - o) xs ys ≡ sets xs o (low ∷ high ∷ [])
 programmed-rest o xs ys low high h e = programmed o (length xs - o) xs ys low high (omega arith) (omega arith) e
 
 -- ---- for a caller of `erase`
@@ -69,7 +71,8 @@ erased o k xs ys g e =
     ap (λ (zs : List ℕ). putMid o k xs zs) whole ∙ lent-whole o k xs (replicate k 255) (length-replicate k 255) g
 
 -- the same of `&mut xs[o..o + n]`
-pub erased-sized : (o n : ℕ) (xs ys : List ℕ) → o + n ≤ length xs → ys ≡ replicate (length (midOf o (o + n - o) xs)) 255 → putMid o (o + n - o) xs ys ≡ sets xs o (replicate n 255)
+pub erased-sized : (o n : ℕ) (xs ys : List ℕ) → o + n ≤ length xs → ys ≡ replicate (length (midOf o (o + n - o) xs)) 255
+    → putMid o (o + n - o) xs ys ≡ sets xs o (replicate n 255)
 erased-sized o n xs ys g e =
     let size : o + n - o ≡ n = omega arith in
     erased o (o + n - o) xs ys (omega arith) e ∙ ap (λ (k : ℕ). sets xs o (replicate k 255)) size

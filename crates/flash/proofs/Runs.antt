@@ -4,11 +4,10 @@ use mathlib.Core.Path.{_≡_, refl, ap, _∙_}
 use mathlib.Core.List.{List, [], _∷_, _++_}
 use native.Mathlib.Nat.{add-zero}
 use native.Mathlib.Omega.{arith}
-use lib.ListN.{length, take, drop, set}
-use lib.Seq.{sets, take-set-le, drop-set-lt}
+use lib.ListN.{length, drop, set}
+use lib.Seq.{sets, drop-set-lt}
 
 module _ {A : Type 0} where
-
   pub drop-sets : (n o : ℕ) (xs vs : List A) → o + length vs ≤ n → drop n (sets xs o vs) ≡ drop n xs
   drop-sets n o xs [] h = refl
   drop-sets n o xs (v ∷ vs) h = drop-sets n (suc o) (set xs o v) vs (omega arith) ∙ drop-set-lt n xs o v (omega arith)

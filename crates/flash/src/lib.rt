@@ -1,4 +1,4 @@
-// The two steps of 01, "The flash and how it fails": no other function changes an image. Each works on the part that is
+// The two steps, program and erase (F3): no other function changes an image. Each works on the part that is
 // lent to it at its offset.
 ghost use mathlib.Core.Path.{_≡_};
 ghost use mathlib.Core.List.{[], _∷_};

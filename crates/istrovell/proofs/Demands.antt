@@ -8,14 +8,16 @@ use lib.ListN.{length, getD, take}
 use lib.Dec.{eqb, leb}
 use borrow.Author.Tests.{eqb-true, eqb-false}
 use Rattle.rules.specs.Flash.{Step, run}
-use Rattle.rules.specs.Call.{page-size, page-edition, page-count, wrong-size, store-number, write-number, read-number, blank-read-number, OK}
+use Rattle.rules.specs.Page.{size}
+use Rattle.rules.specs.Call.{this-form, page-count, wrong-size, store-number, write-number, read-number, blank-read-number, OK}
 use Rattle.rules.specs.Call.{SIZE, Stepped, Reading, Pairing, Formatted, stepped, recover, write, read, blank-read}
 use Rattle.rules.proofs.Truth.{by-cases}
 use Rattle.rules.proofs.Answers.{not-accepted, format-refused, format-done, stepped-refused, stepped-done, lookup-refused, lookup-done}
 use Rattle.promise.specs.Calls.{Question, value-at, blank-value-at, pairing-code, Answer, answer, Obeys}
 use Rattle.promise.specs.History.{recovery-of, write-of}
 use Rattle.promise.proofs.Kept.{called-number, kept}
-use Rattle.promise.proofs.Counts.{format-long, not-longer}
+use Rattle.rules.proofs.Lengths.{format-long}
+use Rattle.promise.proofs.Counts.{not-longer}
 use Rattle.reading.specs.declared.Reading.{Reading as Read}
 use Rattle.reading.specs.declared.Pairing.{Pairing as Pair}
 use Rattle.reading.specs.Answers.{as-reading, as-pairing}
@@ -26,57 +28,66 @@ use Rattle.istrovell.specs.Demands.{only-one-outcome, every-step-follows
 
 -- ---- recovery and write: an answer with steps
 
-module _ (number n : ℕ) (ss : List Step) (i : List ℕ) (r : Done) (j : List ℕ) (h : as-stepped r j ≡ stepped number n ss i) where
+module _ (number n : ℕ) (ss : List Step) (i : List ℕ) (r : Done) (j : List ℕ) (h : as-stepped r j ≡ stepped this-form number n ss i) where
   its-number : r .number ≡ number
-  its-number = called-number number n ss i (as-stepped r j) h
+  its-number = called-number this-form number n ss i (as-stepped r j) h
 
   its-refusal : Unchanged i r j
   its-refusal ne =
-      let e = h ∙ stepped-refused number n ss i (λ z. ne (its-number ∙ z)) in
+      let e = h ∙ stepped-refused this-form number n ss i (λ z. ne (its-number ∙ z)) in
       (ap (λ (s : Stepped). s .image) e, ap (λ (s : Stepped). s .steps) e, ap (λ (s : Stepped). s .finished) e)
 
-  its-steps : r .number ≡ OK → (j ≡ run page-size (take n ss) i) × (r .steps ≡ length (take n ss)) × (r .finished ≡ leb (length ss) n)
+  its-steps : r .number ≡ OK → (j ≡ run (size this-form) (take n ss) i) × (r .steps ≡ length (take n ss)) × (r .finished ≡ leb (length ss) n)
   its-steps ok =
-      let e = h ∙ stepped-done number n ss i (sym its-number ∙ ok) in
+      let e = h ∙ stepped-done this-form number n ss i (sym its-number ∙ ok) in
       (ap (λ (s : Stepped). s .image) e, ap (λ (s : Stepped). s .steps) e, ap (λ (s : Stepped). s .finished) e)
 
 -- ---- demand 1
 
 module _ (i : List ℕ) where
-  format-number : (r : ℕ) (j : List ℕ) → Formats i r j → (r ≡ cond (wrong-size i) SIZE OK) × ((r ≡ OK → ⊥) → j ≡ i)
+  format-number : (r : ℕ) (j : List ℕ) → Formats i r j → (r ≡ cond (wrong-size this-form i) SIZE OK) × ((r ≡ OK → ⊥) → j ≡ i)
   format-number r j h =
-      by-cases (wrong-size i)
-      (λ t. let e = format-refused i t in (rw t (h .0 ∙ ap (λ (f : Formatted). f .number) e), λ ne. h .1 ∙ ap (λ (f : Formatted). f .image) e))
-      (λ t. let e = format-done i t in (rw t (h .0 ∙ ap (λ (f : Formatted). f .number) e), λ ne. absurd (ne (h .0 ∙ ap (λ (f : Formatted). f .number) e))))
+      by-cases (wrong-size this-form i)
+      (λ t. let e = format-refused this-form i t in (rw t (h .0 ∙ ap (λ (f : Formatted). f .number) e), λ ne. h .1 ∙ ap (λ (f : Formatted). f .image) e))
+      (λ t. let e = format-done this-form i t in
+      (rw t (h .0 ∙ ap (λ (f : Formatted). f .number) e), λ ne. absurd (ne (h .0 ∙ ap (λ (f : Formatted). f .number) e))))
 
-  read-value : (a : ℕ) (r : Read) → Reads a i r → (r .number ≡ read-number a i) × ((r .number ≡ OK → ⊥) → r .value ≡ 0)
+  read-value : (a : ℕ) (r : Read) → Reads a i r → (r .number ≡ read-number this-form a i) × ((r .number ≡ OK → ⊥) → r .value ≡ 0)
   unfolding read
   read-value a r h =
       let e = ap (λ (q : Reading). q .number) h in
-      (e, λ ne. ap (λ (q : Reading). q .value) h ∙ rw (not-accepted (read-number a i) (λ z. ne (e ∙ z))))
+      (e, λ ne. ap (λ (q : Reading). q .value) h ∙ rw (not-accepted (read-number this-form a i) (λ z. ne (e ∙ z))))
 
-  blank-value : (a : ℕ) (r : Read) → BlankReads a i r → (r .number ≡ blank-read-number a i) × ((r .number ≡ OK → ⊥) → r .value ≡ 0)
+  blank-value : (a : ℕ) (r : Read) → BlankReads a i r → (r .number ≡ blank-read-number this-form a i) × ((r .number ≡ OK → ⊥) → r .value ≡ 0)
   unfolding blank-read
   blank-value a r h =
       let e = ap (λ (q : Reading). q .number) h in
-      (e, λ ne. ap (λ (q : Reading). q .value) h ∙ rw (not-accepted (blank-read-number a i) (λ z. ne (e ∙ z))))
+      (e, λ ne. ap (λ (q : Reading). q .value) h ∙ rw (not-accepted (blank-read-number this-form a i) (λ z. ne (e ∙ z))))
 
-  look-number : (r : Pair) → LooksUp i r → (r .number ≡ store-number i) × ((r .number ≡ OK → ⊥)
+  look-number : (r : Pair) → LooksUp i r → (r .number ≡ store-number this-form i) × ((r .number ≡ OK → ⊥)
       → as-pairing r ≡ record { number = r .number; paired = false; digits = 0 ∷ 0 ∷ 0 ∷ 0 ∷ [] })
   look-number r h =
-      let e : r .number ≡ store-number i =
-      by-cases (eqb (store-number i) 0)
-      (λ t. let z = eqb-true (store-number i) 0 t in ap (λ (q : Pairing). q .number) (h ∙ lookup-done i z) ∙ sym z)
-      (λ t. ap (λ (q : Pairing). q .number) (h ∙ lookup-refused i (eqb-false (store-number i) 0 t))) in
-      (e, λ ne. h ∙ lookup-refused i (λ z. ne (e ∙ z)) ∙ rw e)
+      let e : r .number ≡ store-number this-form i =
+      by-cases (eqb (store-number this-form i) 0)
+      (λ t. let z = eqb-true (store-number this-form i) 0 t in ap (λ (q : Pairing). q .number) (h ∙ lookup-done this-form i z) ∙ sym z)
+      (λ t. ap (λ (q : Pairing). q .number) (h ∙ lookup-refused this-form i (eqb-false (store-number this-form i) 0 t))) in
+      (e, λ ne. h ∙ lookup-refused this-form i (λ z. ne (e ∙ z)) ∙ rw e)
 
 pub answers-by-number : every-call-answers-by-number
 unfolding recover write
 answers-by-number i =
     record {
       formats = format-number i;
-      recovers = λ n r j h. (its-number (store-number i) n (recovery-of i) i r j h, its-refusal (store-number i) n (recovery-of i) i r j h);
-      writes = λ a v n r j h. (its-number (write-number a v i) n (write-of a v i) i r j h, its-refusal (write-number a v i) n (write-of a v i) i r j h);
+      recovers = λ n r j h. (
+        its-number (store-number this-form i) n (recovery-of this-form i) i r j h,
+        its-refusal (store-number this-form i) n
+            (recovery-of this-form i) i r j h,
+      );
+      writes = λ a v n r j h. (
+        its-number (write-number this-form a v i) n (write-of this-form a v i) i r j h,
+        its-refusal
+            (write-number this-form a v i) n (write-of this-form a v i) i r j h,
+      );
       reads = read-value i;
       blank-reads = blank-value i;
       looks = look-number i;
@@ -123,7 +134,7 @@ one-outcome i =
 
 -- ---- demand 3
 
-exported-obey : Obeys exported
+exported-obey : Obeys this-form exported
 unfolding answer
 exported-obey =
     record {
@@ -133,13 +144,13 @@ exported-obey =
       answers = answers;
     }
   where
-    answers : (q : Question) (i : List ℕ) (r : Answer q) → replies q i r → r ≡ answer q i
+    answers : (q : Question) (i : List ℕ) (r : Answer q) → replies q i r → r ≡ answer this-form q i
     answers (value-at x) i r h = h .2 ∙ h .1
     answers (blank-value-at x) i r h = h .2 ∙ h .1
     answers pairing-code i r h = h .2 ∙ h .1
 
 pub keeps-its-word : a-store-keeps-its-word
-keeps-its-word = kept exported exported-obey
+keeps-its-word = kept this-form (omega arith) exported exported-obey
 
 -- ---- demand 2
 
@@ -148,11 +159,11 @@ unfolding recover write
 follows-the-rules i =
     record {
       formats = λ r j h ok.
-          by-cases (wrong-size i)
-          (λ t. absurd (one-not-zero (sym (h .0 ∙ ap (λ (f : Formatted). f .number) (format-refused i t)) ∙ ok)))
-          (λ t. (h .1 ∙ ap (λ (f : Formatted). f .image) (format-done i t), format-long page-edition (page-count i)));
-      recovers = λ n r j h. its-steps (store-number i) n (recovery-of i) i r j h;
-      writes = λ a v n r j h. its-steps (write-number a v i) n (write-of a v i) i r j h;
+          by-cases (wrong-size this-form i)
+          (λ t. absurd (one-not-zero (sym (h .0 ∙ ap (λ (f : Formatted). f .number) (format-refused this-form i t)) ∙ ok)))
+          (λ t. (h .1 ∙ ap (λ (f : Formatted). f .image) (format-done this-form i t), format-long (this-form .edition) (page-count this-form i)));
+      recovers = λ n r j h. its-steps (store-number this-form i) n (recovery-of this-form i) i r j h;
+      writes = λ a v n r j h. its-steps (write-number this-form a v i) n (write-of this-form a v i) i r j h;
       longest = not-longer i;
       finds = λ a v n r j h ok fin q g.
           let e = keeps-its-word .finds-what-is-written i a v n (as-stepped r j) (r, h, refl) ok fin .there (as-reading q) (q, g, refl) in

@@ -1,1 +1,2 @@
+-- That the exported calls meet the demands.
 pub mod Demands

@@ -7,7 +7,8 @@ use lib.ListN.{length, take}
 use lib.Dec.{leb}
 use Rattle.rules.specs.Flash.{run}
 use Rattle.rules.specs.Steps.{format-steps}
-use Rattle.rules.specs.Call.{page-size, page-edition, page-count, wrong-size, store-number, write-number, read-number, blank-read-number, OK, SIZE}
+use Rattle.rules.specs.Page.{size}
+use Rattle.rules.specs.Call.{this-form, page-count, wrong-size, store-number, write-number, read-number, blank-read-number, OK, SIZE}
 use Rattle.rules.specs.Call.{format, recover, write, read, blank-read, lookup}
 use Rattle.promise.specs.Calls.{Question, value-at, blank-value-at, pairing-code, Answer, Calls}
 use Rattle.promise.specs.History.{recovery-of, write-of}
@@ -20,22 +21,22 @@ use Rattle.writing.specs.Answers.{as-stepped}
 
 -- What the contracts say: i is the image at the call, r the answer, j the image after it. A read leaves the image.
 abbrev pub Formats : (i : List ℕ) (r : ℕ) (j : List ℕ) → Type 0
-Formats i r j = (r ≡ format i .number) × (j ≡ format i .image)
+Formats i r j = (r ≡ format this-form i .number) × (j ≡ format this-form i .image)
 
 abbrev pub Recovers : (allowance : ℕ) (i : List ℕ) (r : Stepped) (j : List ℕ) → Type 0
-Recovers n i r j = as-stepped r j ≡ recover n i
+Recovers n i r j = as-stepped r j ≡ recover this-form n i
 
 abbrev pub Writes : (address value allowance : ℕ) (i : List ℕ) (r : Stepped) (j : List ℕ) → Type 0
-Writes a v n i r j = as-stepped r j ≡ write a v n i
+Writes a v n i r j = as-stepped r j ≡ write this-form a v n i
 
 abbrev pub Reads : (address : ℕ) (i : List ℕ) (r : Reading) → Type 0
-Reads a i r = as-reading r ≡ read a i
+Reads a i r = as-reading r ≡ read this-form a i
 
 abbrev pub BlankReads : (address : ℕ) (i : List ℕ) (r : Reading) → Type 0
-BlankReads a i r = as-reading r ≡ blank-read a i
+BlankReads a i r = as-reading r ≡ blank-read this-form a i
 
 abbrev pub LooksUp : (i : List ℕ) (r : Pairing) → Type 0
-LooksUp i r = as-pairing r ≡ lookup i
+LooksUp i r = as-pairing r ≡ lookup this-form i
 
 -- Demand 1. Each call takes any flash image and any address. A call that can't be done answers by number, given exactly when the
 -- table of the rules says so, and every byte of the image stays. That nothing outside the image is touched and that every call
@@ -44,12 +45,12 @@ abbrev pub Unchanged : (i : List ℕ) (r : Stepped) (j : List ℕ) → Type 0
 Unchanged i r j = (r .number ≡ OK → ⊥) → (j ≡ i) × (r .steps ≡ 0) × (r .finished ≡ false)
 
 pub record AnswersByNumber (i : List ℕ) : Type 0 where
-  pub formats : (r : ℕ) (j : List ℕ) → Formats i r j → (r ≡ cond (wrong-size i) SIZE OK) × ((r ≡ OK → ⊥) → j ≡ i)
-  pub recovers : (n : ℕ) (r : Stepped) (j : List ℕ) → Recovers n i r j → (r .number ≡ store-number i) × Unchanged i r j
-  pub writes : (a v n : ℕ) (r : Stepped) (j : List ℕ) → Writes a v n i r j → (r .number ≡ write-number a v i) × Unchanged i r j
-  pub reads : (a : ℕ) (r : Reading) → Reads a i r → (r .number ≡ read-number a i) × ((r .number ≡ OK → ⊥) → r .value ≡ 0)
-  pub blank-reads : (a : ℕ) (r : Reading) → BlankReads a i r → (r .number ≡ blank-read-number a i) × ((r .number ≡ OK → ⊥) → r .value ≡ 0)
-  pub looks : (r : Pairing) → LooksUp i r → (r .number ≡ store-number i)
+  pub formats : (r : ℕ) (j : List ℕ) → Formats i r j → (r ≡ cond (wrong-size this-form i) SIZE OK) × ((r ≡ OK → ⊥) → j ≡ i)
+  pub recovers : (n : ℕ) (r : Stepped) (j : List ℕ) → Recovers n i r j → (r .number ≡ store-number this-form i) × Unchanged i r j
+  pub writes : (a v n : ℕ) (r : Stepped) (j : List ℕ) → Writes a v n i r j → (r .number ≡ write-number this-form a v i) × Unchanged i r j
+  pub reads : (a : ℕ) (r : Reading) → Reads a i r → (r .number ≡ read-number this-form a i) × ((r .number ≡ OK → ⊥) → r .value ≡ 0)
+  pub blank-reads : (a : ℕ) (r : Reading) → BlankReads a i r → (r .number ≡ blank-read-number this-form a i) × ((r .number ≡ OK → ⊥) → r .value ≡ 0)
+  pub looks : (r : Pairing) → LooksUp i r → (r .number ≡ store-number this-form i)
       × ((r .number ≡ OK → ⊥) → as-pairing r ≡ record { number = r .number; paired = false; digits = 0 ∷ 0 ∷ 0 ∷ 0 ∷ [] })
 
 abbrev pub every-call-answers-by-number : Type 0
@@ -76,12 +77,14 @@ Gives r v = (r .number ≡ OK) × (r .value ≡ v)
 -- read finds: of every image.
 pub record FollowsTheRules (i : List ℕ) : Type 0 where
   pub formats : (r : ℕ) (j : List ℕ) → Formats i r j → r ≡ OK
-      → let ss = format-steps page-edition (page-count i) in (j ≡ run page-size ss i) × (length ss ≡ 3 * page-count i + 2)
+      → let ss = format-steps (this-form .edition) (page-count this-form i) in (j ≡ run (size this-form) ss i) × (length ss ≡ 3 * page-count this-form i + 2)
   pub recovers : (n : ℕ) (r : Stepped) (j : List ℕ) → Recovers n i r j → r .number ≡ OK
-      → let ss = take n (recovery-of i) in (j ≡ run page-size ss i) × (r .steps ≡ length ss) × (r .finished ≡ leb (length (recovery-of i)) n)
+      → let ss = take n (recovery-of this-form i) in (j ≡ run (size this-form) ss i) × (r .steps ≡ length ss)
+      × (r .finished ≡ leb (length (recovery-of this-form i)) n)
   pub writes : (a v n : ℕ) (r : Stepped) (j : List ℕ) → Writes a v n i r j → r .number ≡ OK
-      → let ss = take n (write-of a v i) in (j ≡ run page-size ss i) × (r .steps ≡ length ss) × (r .finished ≡ leb (length (write-of a v i)) n)
-  pub longest : (a v : ℕ) → write-number a v i ≡ OK → length (write-of a v i) ≤ 388 + 3 * (page-count i - 1)
+      → let ss = take n (write-of this-form a v i) in (j ≡ run (size this-form) ss i) × (r .steps ≡ length ss)
+      × (r .finished ≡ leb (length (write-of this-form a v i)) n)
+  pub longest : (a v : ℕ) → write-number this-form a v i ≡ OK → length (write-of this-form a v i) ≤ 388 + 3 * (page-count this-form i - 1)
   pub finds : (a v n : ℕ) (r : Stepped) (j : List ℕ) → Writes a v n i r j → r .number ≡ OK → r .finished ≡ true
       → (q : Reading) → Reads a j q → Gives q v
 
@@ -106,4 +109,4 @@ exported =
 -- Demand 3, and what else a store promises: what a finished write puts at an address is found by every call, and changes nothing
 -- else; a power failure in a write loses nothing; a recovery changes no answer, and mends. `KeepsItsWord` of promise has the clauses.
 abbrev pub a-store-keeps-its-word : Type 0
-a-store-keeps-its-word = KeepsItsWord exported
+a-store-keeps-its-word = KeepsItsWord this-form exported

@@ -1,1 +1,2 @@
+-- The demands of the exported calls.
 pub mod Demands

@@ -1,5 +1,6 @@
 // The library for C and Rust: the six calls under their exported names. Each takes any image and any numbers, and its
 // contract fixes every answer and every byte of the image after it; include/istrovell.h tells a firmware engineer the same.
+use pages::FORM;
 use reading::Pairing;
 use reading::Reading;
 use writing::Stepped;
@@ -9,14 +10,14 @@ ghost use Rattle.istrovell.specs.Demands.{Formats, Recovers, Writes, Rea
 pub extern "C" fn istrovell_format(image: &mut [u8]) -> u8
     ensures { λ r. ⌜ Formats (now (image .entry)) r (now (image .exit)) ⌝ }
 {
-    writing::format(image)
+    writing::format(image, FORM)
 }
 
 #[no_mangle]
 pub extern "C" fn istrovell_recover(image: &mut [u8], allowance: u16) -> Stepped
     ensures { λ r. ⌜ Recovers allowance (now (image .entry)) r (now (image .exit)) ⌝ }
 {
-    writing::recover(image, allowance)
+    writing::recover(image, FORM, allowance)
 }
 
 #[no_mangle]
@@ -28,26 +29,26 @@ pub extern "C" fn istrovell_write(
 ) -> Stepped
     ensures { λ r. ⌜ Writes address value allowance (now (image .entry)) r (now (image .exit)) ⌝ }
 {
-    writing::write(image, address, value, allowance)
+    writing::write(image, FORM, address, value, allowance)
 }
 
 #[no_mangle]
 pub extern "C" fn istrovell_read(image: &[u8], address: u16) -> Reading
     ensures { λ r. ⌜ Reads address (now (image .entry)) r ⌝ }
 {
-    reading::read(image, address)
+    reading::read(image, FORM, address)
 }
 
 #[no_mangle]
 pub extern "C" fn istrovell_blank_read(image: &[u8], address: u16) -> Reading
     ensures { λ r. ⌜ BlankReads address (now (image .entry)) r ⌝ }
 {
-    reading::blank_read(image, address)
+    reading::blank_read(image, FORM, address)
 }
 
 #[no_mangle]
 pub extern "C" fn istrovell_lookup(image: &[u8]) -> Pairing
     ensures { λ r. ⌜ LooksUp (now (image .entry)) r ⌝ }
 {
-    reading::lookup(image)
+    reading::lookup(image, FORM)
 }

@@ -29,7 +29,8 @@ pub appends-length : {xs s ys : List ℕ} {at r : ℕ} → Appends xs at s ys r 
 appends-length {xs} {s} {ys} {at} p = ap length (p .bytes) ∙ length-sets xs at s
 
 -- one byte more of a text
-pub appends-next : {xs ys : List ℕ} {at : ℕ} (text : List ℕ) (i : ℕ) → i < length text → Appends xs at (take i text) ys (at + i) → Appends xs at (take (i + 1) text) (set ys (at + i) (getD text i 0)) (at + (i + 1))
+pub appends-next : {xs ys : List ℕ} {at : ℕ} (text : List ℕ) (i : ℕ) → i < length text → Appends xs at (take i text) ys (at + i)
+    → Appends xs at (take (i + 1) text) (set ys (at + i) (getD text i 0)) (at + (i + 1))
 appends-next {xs} {ys} {at} text i l p =
     let e : take (i + 1) text ≡ take i text ++ (getD text i 0 ∷ []) = rw (add-one, take-suc text i 0) in
     let n : at + (i + 1) ≡ at + i + 1 = omega arith in

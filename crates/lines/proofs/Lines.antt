@@ -17,8 +17,7 @@ use Rattle.lines.proofs.Decimal.{decimal-length}
 
 pub setting-line-length : (a v : ℕ) → length (setting-line a v) ≤ 18
 unfolding setting-line
-setting-line-length a v =
-    simp length-append (omega (arith, decimal-length a, decimal-length v))
+setting-line-length a v = simp length-append (omega (arith, decimal-length a, decimal-length v))
 
 pub lines-length : (t : List Setting) → length (setting-lines t) ≤ length t * 18
 unfolding setting-lines setting-line
@@ -46,7 +45,8 @@ module _ {xs ys : List ℕ} {held : ℕ} {t : List Setting} (h : Holds xs ys hel
       let e = held-length h few in
       let in-table : i < length t = omega arith in
       let split : take (i + 1) t ≡ take i t ++ (getD t i (setting 0 0) ∷ []) = rw (add-one, take-suc t i (setting 0 0)) in
-      let is : getD t i (setting 0 0) ≡ setting (getD xs i 0) (getD ys i 0) = rw (h .few-addresses n, h .few-values n) (setting-at t i (setting 0 0) in-table) in
+      let is : getD t i (setting 0 0) ≡ setting (getD xs i 0) (getD ys i 0) = rw (h .few-addresses n, h .few-values n)
+      (setting-at t i (setting 0 0) in-table) in
       ap setting-lines split ∙ lines-append (take i t) (getD t i (setting 0 0) ∷ [])
       ∙ ap (λ (l : List ℕ). setting-lines (take i t) ++ l) (ap (λ (s : Setting). setting-lines (s ∷ [])) is ∙ one-line (getD xs i 0) (getD ys i 0))
 

@@ -1,12 +1,10 @@
 -- What a function that writes text leaves in the buffer that it is lent, and the listing's lines in the terms of the code.
-use Prim.Native.Nat.{ℕ, _+_, _-_, _≤_}
+use Prim.Native.Nat.{ℕ, _+_, _≤_}
 use mathlib.Core.Path.{_≡_}
 use mathlib.Core.List.{List, _++_}
 use lib.ListN.{length, take, drop}
 use lib.Seq.{sets}
 use Rattle.rules.specs.Listing.{decimal, text-pages, text-used, text-cleared, text-order, text-held, space, line-end}
-use Rattle.ranks.specs.Places.{taken-places, greatest-below}
-use Rattle.store.specs.declared.Look.{Look}
 
 -- The text stands in the buffer from a place on, and all else is as it was; r is the place behind it.
 pub record Appends (before : List ℕ) (at : ℕ) (text after : List ℕ) (r : ℕ) : Type 0 where
@@ -27,14 +25,8 @@ pages-part count used cleared = text-pages ++ decimal count ++ text-used ++ deci
 unfoldable pub order-part : (order held : ℕ) → List ℕ
 order-part order held = text-order ++ decimal order ++ text-held ++ decimal held ++ line-end
 
--- the greatest rank of an array of ranks
-abbrev pub top-rank : List ℕ → ℕ
-top-rank ranks = greatest-below 4194305 (take 32 ranks)
-
--- the first line, of what a look tells
-unfoldable pub told-line : Look → (held : ℕ) → List ℕ
-told-line look held =
-    pages-part (look .count) (look .used) (taken-places (take 32 (look .spares))) ++ order-part (top-rank (look .ranks) - 1) held
+unfoldable pub told-line : (count used cleared order held : ℕ) → List ℕ
+told-line count used cleared order held = pages-part count used cleared ++ order-part order held
 
 -- the line of one setting
 unfoldable pub setting-line : (address value : ℕ) → List ℕ

@@ -1,15 +1,18 @@
 // The listing of a store: its text, written into a buffer that is lent. Each function appends at a place and gives the place
 // behind what it wrote.
-use settings::Settings;
-use store::Look;
-ghost use mathlib.Core.Path.{_≡_};
+use pages::Form;
+use settings::HELD_MAX;
+use settings::NO_ADDRESS;
+use settings::NO_VALUE;
+use survey::OK;
 ghost use mathlib.Core.List.{List, [], _∷_, _++_};
-ghost use Prim.Native.Nat.{_+_, _-_, _*_, _≤_, _<_};
+ghost use Prim.Native.Nat.{_+_, _*_, _≤_, _<_};
 ghost use lib.ListN.{length};
 ghost use Rattle.rules.specs.Store.{Setting};
 ghost use Rattle.rules.specs.Listing.{decimal, text-refused, line-end, setting-lines, listing};
+ghost use Rattle.pages.specs.Read.{as-form, Lawful};
 ghost use Rattle.settings.specs.Held.{Holds};
-ghost use Rattle.lines.specs.Appended.{Appends, Written, pages-part, order-part, top-rank, told-line, setting-line};
+ghost use Rattle.lines.specs.Appended.{Appends, Written, pages-part, order-part, told-line, setting-line};
 
 fn put_byte(out: &mut [u8], at: usize, byte: u8) -> usize
     requires { ⌜ at < length (now out) ⌝ }
@@ -63,15 +66,20 @@ fn put_setting(out: &mut [u8], at: usize, address: u16, value: u8) -> usize
 }
 
 // The lines of the settings, in the arrays' order.
-fn put_settings(out: &mut [u8], at: usize, s: Settings) -> usize
-    requires { ⌜ (s .held ≤ 192) × (at + s .held * 18 ≤ length (now out)) ⌝ }
-    ensures { λ r. ⌜ ((t : List Setting) → Holds (s .addresses) (s .values) (s .held) t → Appends (now (out .entry)) at (setting-lines t) (now (out .exit)) r) ⌝ }
+fn put_settings<'a>(
+    out: &mut [u8],
+    at: usize,
+    addresses: &'a [u16; HELD_MAX],
+    values: &'a [u8; HELD_MAX],
+    held: usize,
+) -> usize
+    requires { ⌜ (held ≤ 192) × (at + held * 18 ≤ length (now out)) ⌝ }
+    ensures { λ r. ⌜ ((t : List Setting) → Holds (now (addresses .entry)) (now (values .entry)) held t → Appends (now (out .entry)) at (setting-lines t) (now (out .exit)) r) ⌝ }
 {
-    let held = s.held;
     let mut end = at;
     let mut i = 0;
     while i < held {
-        end = put_setting(out, end, s.addresses[i], s.values[i]);
+        end = put_setting(out, end, addresses[i], values[i]);
         i += 1;
     }
     end
@@ -98,26 +106,20 @@ fn put_order(out: &mut [u8], at: usize, order: u32, held: u32) -> usize
     put_byte(out, behind_held, 10)
 }
 
-// The order of the newest page.
-fn newest_order(ranks: &[u32; 32]) -> u32
-    requires { ⌜ (top-rank (now ranks) ≡ 0 → ⊥) ⌝ }
-    ensures { λ r. ⌜ r ≡ top-rank (now (ranks .entry)) - 1 ⌝ }
-    ensures { λ r. ⌜ r < 4194305 ⌝ }
+// Line one.
+fn put_first(
+    out: &mut [u8],
+    count: usize,
+    used: usize,
+    cleared: usize,
+    order: u32,
+    held: usize,
+) -> usize
+    requires { ⌜ (count ≤ 32) × (used ≤ 32) × (cleared ≤ 32) × (order < 4194304) × (held ≤ 192) ⌝ }
+    requires { ⌜ 75 ≤ length (now out) ⌝ }
+    ensures { λ r. ⌜ Appends (now (out .entry)) 0 (told-line count used cleared order held) (now (out .exit)) r ⌝ }
 {
-    ranks[ranks::newest_below(ranks, 4194305)] - 1
-}
-
-// Line one, of a store that has a used page.
-fn put_first(out: &mut [u8], look: Look, held: usize) -> usize
-    requires { ⌜ (look .count ≤ 32) × (look .used ≤ 32) × (held ≤ 192) × (75 ≤ length (now out)) ⌝ }
-    requires { ⌜ (top-rank (look .ranks) ≡ 0 → ⊥) ⌝ }
-    ensures { λ r. ⌜ Appends (now (out .entry)) 0 (told-line look held) (now (out .exit)) r ⌝ }
-{
-    let ranks = look.ranks;
-    let spares = look.spares;
-    let cleared = ranks::count(&spares);
-    let order = newest_order(&ranks);
-    let at = put_pages(out, 0, look.count as u32, look.used as u32, cleared as u32);
+    let at = put_pages(out, 0, count as u32, used as u32, cleared as u32);
     put_order(out, at, order, held as u32)
 }
 
@@ -132,17 +134,24 @@ fn put_refused(out: &mut [u8], number: u8) -> usize
 
 // The listing of an image of any length and content: its length, and its bytes at the start of the buffer. What lies behind
 // them stays.
-pub fn list(image: &[u8], out: &mut [u8]) -> usize
-    requires { ⌜ 4096 ≤ length (now out) ⌝ }
-    ensures { λ r. ⌜ Written (now (out .entry)) (listing (now (image .entry))) (now (out .exit)) r ⌝ }
+pub fn list(image: &[u8], form: Form, out: &mut [u8]) -> usize
+    requires { ⌜ Lawful form × (4096 ≤ length (now out)) ⌝ }
+    ensures { λ r. ⌜ Written (now (out .entry)) (listing (as-form form) (now (image .entry))) (now (out .exit)) r ⌝ }
 {
-    let store = store::open(image);
+    let mut addresses = [NO_ADDRESS; HELD_MAX];
+    let mut values = [NO_VALUE; HELD_MAX];
+    let store = store::open(image, form, &mut addresses, &mut values);
     let number = store.number;
-    if number != 0 {
+    if number != OK {
         return put_refused(out, number);
     }
-    let look = store.look;
-    let settings = store.settings;
-    let at = put_first(out, look, settings.held);
-    put_settings(out, at, settings)
+    let at = put_first(
+        out,
+        store.look.count,
+        store.look.used,
+        store.look.cleared,
+        store.look.order,
+        store.held,
+    );
+    put_settings(out, at, &addresses, &values, store.held)
 }

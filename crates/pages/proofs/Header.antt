@@ -7,7 +7,8 @@ use mathlib.Core.Option.{none, some}
 use native.Mathlib.Omega.{arith}
 use lib.ListN.{length, drop}
 use Rattle.rules.specs.Word.{Word, words, low16}
-use Rattle.rules.specs.Page.{wear-part, opening-part, done-part, slots, is-wear, wear-in, is-opening, order-in, is-done, all-blank, cleared, open₁, open₂, receiving, bad, state-after-wear, state-by, state}
+use Rattle.rules.specs.Page.{wear-part, opening-part, done-part, slots, is-wear, wear-in, is-opening, order-in, is-done, all-blank, cleared, open₁}
+use Rattle.rules.specs.Page.{open₂, receiving, bad, state-after-wear, state-by, state}
 use Rattle.rules.specs.Steps.{renewed-wear}
 use Rattle.words.specs.Read.{word-in}
 use Rattle.words.proofs.Parts.{word-of, drop-words}
@@ -68,11 +69,13 @@ module _ (s : List ℕ) (wear : ℕ) (h : 12 ≤ length s) {w : Word} (e : w ≡
   unfolding state-after-wear
   plain i t₁ = rw (opening-is, t₁, i)
 
-  pub received : {o : ℕ} {v : Word} → o ≡ order-in w → is-opening 1 w ≡ false → is-opening 2 w ≡ true → v ≡ word-in s 8 → is-done o v ≡ true → state-after-wear (words s) wear ≡ open₂ o
+  pub received : {o : ℕ} {v : Word} → o ≡ order-in w → is-opening 1 w ≡ false → is-opening 2 w ≡ true → v ≡ word-in s 8 → is-done o v ≡ true
+      → state-after-wear (words s) wear ≡ open₂ o
   unfolding state-after-wear
   received i t₁ t₂ d t = rw (opening-is, t₁, t₂, done-at s h, ← d, ← i, t)
 
-  pub unfinished : {o : ℕ} {v : Word} → o ≡ order-in w → is-opening 1 w ≡ false → is-opening 2 w ≡ true → v ≡ word-in s 8 → is-done o v ≡ false → state-after-wear (words s) wear ≡ receiving
+  pub unfinished : {o : ℕ} {v : Word} → o ≡ order-in w → is-opening 1 w ≡ false → is-opening 2 w ≡ true → v ≡ word-in s 8 → is-done o v ≡ false
+      → state-after-wear (words s) wear ≡ receiving
   unfolding state-after-wear
   unfinished i t₁ t₂ d t = rw (opening-is, t₁, t₂, done-at s h, ← d, ← i, t)
 

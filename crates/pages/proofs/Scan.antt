@@ -74,7 +74,8 @@ free-here (suc n) (w ∷ ws) h b = rw (free-here n ws (omega arith) b) (past-suc
 last-word : (s : List ℕ) (m : ℕ) → m < length s / 4 → word-in s (m * 4) ≡ getD (words s) m blank-word
 last-word s m h = let e : m * 4 ≡ 4 * m = omega arith in rw e (sym (word-of s m (omega arith)))
 
-pub free-on : (s : List ℕ) (n : ℕ) → 0 < n → n ≤ length s / 4 → blank (word-in s ((n - 1) * 4)) ≡ true → free-slot (take n (words s)) ≡ free-slot (take (n - 1) (words s))
+pub free-on : (s : List ℕ) (n : ℕ) → 0 < n → n ≤ length s / 4 → blank (word-in s ((n - 1) * 4)) ≡ true
+    → free-slot (take n (words s)) ≡ free-slot (take (n - 1) (words s))
 free-on s zero p h b = absurd (omega arith)
 free-on s (suc m) p h b =
     let e : suc m - 1 ≡ m = omega arith in

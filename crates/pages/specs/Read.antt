@@ -1,5 +1,8 @@
--- What the code's states are in the rules' terms.
-use Rattle.rules.specs.Page.{State, cleared, open₁, open₂, receiving, bad}
+-- What the code's states and forms are in the rules' terms.
+use Prim.Native.Nat.{_≤_}
+use Rattle.rules.specs.Page.{Form, State, cleared, open₁, open₂, receiving, bad}
+use Rattle.rules.specs.Call.{Roomy}
+use Rattle.pages.specs.declared.Form.{Form as Numbers}
 use Rattle.pages.specs.declared.State.{State as Answer}
 use Rattle.pages.specs.declared.State.the-variants.{Cleared, Open1, Open2, Receiving, Bad}
 
@@ -10,3 +13,11 @@ as-state (Open1 order) = open₁ order
 as-state (Open2 order) = open₂ order
 as-state Receiving = receiving
 as-state Bad = bad
+
+-- the form of two numbers
+abbrev pub as-form : Numbers → Form
+as-form f = record { slot-count = f .slots; edition = f .edition }
+
+-- the forms that the code is for: a page takes all that may be held, and has at most 2,048 bytes
+abbrev pub Lawful : Numbers → Type 0
+Lawful f = Roomy (as-form f) × (f .slots ≤ 509)

@@ -1,14 +1,45 @@
-// The state of one page: 01, "Page states". A page is lent as the part of the image that it is.
+// The state of one page (P4 to P8). A page is lent as the part of the image that it is.
 use words::Word;
 ghost use mathlib.Core.Path.{_≡_};
-ghost use Prim.Native.Nat.{_/_, _≤_, _<_};
+ghost use Prim.Native.Nat.{_*_, _/_, _≤_, _<_};
 ghost use lib.ListN.{length};
 ghost use Rattle.rules.specs.Word.{words};
-ghost use Rattle.rules.specs.Page.{is-wear, wear-in, is-opening, order-in, is-done, all-blank, state-after-wear, state};
+ghost use Rattle.rules.specs.Page.{size, is-wear, wear-in, is-opening, order-in, is-done, all-blank, state-after-wear, state};
 ghost use Rattle.rules.specs.Store.{order, free-slot};
 ghost use Rattle.rules.specs.Steps.{renewed-wear};
 ghost use Rattle.words.specs.Read.{as-word};
-ghost use Rattle.pages.specs.Read.{as-state};
+ghost use Rattle.pages.specs.Read.{as-state, as-form, Lawful};
+
+// The form of a store's pages: how many slots a page has behind its three header words, and the third byte of its wear word.
+pub struct Form {
+    pub slots: usize,
+    pub edition: u8,
+}
+
+// The one form that there is: pages of 1,024 bytes.
+pub const FORM: Form = Form {
+    slots: 253,
+    edition: 1,
+};
+
+impl Form {
+    // The bytes of a page.
+    pub fn size(self) -> usize
+        requires { ⌜ Lawful self ⌝ }
+        ensures { λ r. ⌜ r ≡ size (as-form self) ⌝ }
+    {
+        12 + 4 * self.slots
+    }
+
+    // The offset at which a page begins.
+    pub fn start(self, page: usize) -> usize
+        requires { ⌜ Lawful self × (page ≤ 32) ⌝ }
+        ensures { λ r. ⌜ r ≡ page * size (as-form self) ⌝ }
+        ensures { λ r. ⌜ r ≤ 65536 ⌝ }
+    {
+        page * (12 + 4 * self.slots)
+    }
+}
 
 // A cleared page has its wear, an open one of kind 1 or 2 its order.
 pub enum State {
@@ -19,7 +50,7 @@ pub enum State {
     Bad,
 }
 
-// "sound wear word with third byte 1": the byte is the edition. Here and below the cheap test comes first.
+// P4. Wear of a page: a sound wear word with the edition as its third byte. Here and below the cheap test comes first.
 pub fn is_wear(w: Word, edition: u8) -> bool
     ensures { λ r. ⌜ r ≡ is-wear edition (as-word w) ⌝ }
 {
@@ -29,7 +60,7 @@ pub fn is_wear(w: Word, edition: u8) -> bool
     words::is_sound(w)
 }
 
-// "a sound opening word of kind 1", "of kind 2"
+// W8. Opening word: sound, of kind 1 or of kind 2.
 pub fn is_opening(w: Word, kind: u32) -> bool
     ensures { λ r. ⌜ r ≡ is-opening kind (as-word w) ⌝ }
 {
@@ -47,7 +78,7 @@ pub fn order_in(w: Word) -> u32
     words::low24(w) / 4
 }
 
-// "its matching done word"
+// W9. Done word: it matches the opening word.
 pub fn is_done(w: Word, order: u32) -> bool
     requires { ⌜ order < 4194304 ⌝ }
     ensures { λ r. ⌜ r ≡ is-done order (as-word w) ⌝ }
@@ -107,8 +138,7 @@ pub fn state_of(page: &[u8], edition: u8) -> State
     State::Bad
 }
 
-// "The new wear is one more than that of the sound wear word read before the erase, at most 65,535; a page without such a
-// word gets 1."
+// C4. New wear: one more than the page had before its erase, 65,535 at most, and 1 for a page that had none.
 pub fn renewed_wear(page: &[u8], edition: u8) -> u16
     requires { ⌜ 4 ≤ length (now page) ⌝ }
     ensures { λ r. ⌜ r ≡ renewed-wear (wear-in edition (words (now (page .entry)))) ⌝ }
@@ -124,7 +154,7 @@ pub fn renewed_wear(page: &[u8], edition: u8) -> u16
     wear + 1
 }
 
-// "The free slot is the one after the last slot that isn't blank": how many slots come before it.
+// S8. Free slot: it is the one behind the last slot that isn't blank. How many slots come before it.
 pub fn free_slot(slots: &[u8]) -> usize
     ensures { λ r. ⌜ r ≡ free-slot (words (now (slots .entry))) ⌝ }
     ensures { λ r. ⌜ r ≤ length (now (slots .entry)) / 4 ⌝ }

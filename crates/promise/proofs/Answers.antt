@@ -7,6 +7,7 @@ use mathlib.Core.Option.{Option, some}
 use native.Mathlib.Omega.{arith}
 use lib.Dec.{eqb}
 use borrow.Author.Tests.{ne-eqb, eqb-true}
+use Rattle.rules.specs.Page.{Form}
 use Rattle.rules.specs.Store.{states, value}
 use Rattle.rules.specs.Steps.{is-value}
 use Rattle.rules.specs.Call.{pages, is-unclean, wrong-address, is-held, no-room, order-end, first-of, then, store-number, write-number, accepted}
@@ -38,10 +39,10 @@ answer-by (value-at x) t = read-by x (t x)
 answer-by (blank-value-at x) t = blank-read-by x (t x)
 answer-by pairing-code t = shows (code-by t)
 
-pub answers-are : {May : Type 0} {t : ℕ → Option ℕ} {i : Image} → Healthy May t i → (q : Question) → answer q i ≡ answer-by q t
+pub answers-are : {fm : Form} {May : Type 0} {t : ℕ → Option ℕ} {i : Image} → Healthy fm May t i → (q : Question) → answer fm q i ≡ answer-by q t
 unfolding answer answer-by read-by blank-read-by code-by read blank-read lookup blank-value digits then accepted
-answers-are {i = i} h (value-at x) = rw (read-goes-on i x, blank-read-goes-on i x, value-here h x, store-ok h)
-answers-are {i = i} h (blank-value-at x) = rw (blank-read-goes-on i x, value-here h x, store-ok h)
+answers-are {fm = fm} {i = i} h (value-at x) = rw (read-goes-on fm i x, blank-read-goes-on fm i x, value-here h x, store-ok h)
+answers-are {fm = fm} {i = i} h (blank-value-at x) = rw (blank-read-goes-on fm i x, value-here h x, store-ok h)
 answers-are h pairing-code = rw (value-here h 16, value-here h 17, value-here h 18, value-here h 19, store-ok h)
 
 -- a digit with v in its place
@@ -73,11 +74,11 @@ module _ (a v : ℕ) (t : ℕ → Option ℕ) where
       )
 
 -- a write of a clean store is not refused for the store's sake
-pub not-refused : (a v : ℕ) (i : Image) → store-number i ≡ OK → is-unclean (states (pages i)) ≡ false
-    → let n = write-number a v i in (n ≡ NO-STORE → ⊥) × (n ≡ DAMAGED → ⊥) × (n ≡ UNCLEAN → ⊥)
+pub not-refused : (fm : Form) (a v : ℕ) (i : Image) → store-number fm i ≡ OK → is-unclean (states (pages fm i)) ≡ false
+    → let n = write-number fm a v i in (n ≡ NO-STORE → ⊥) × (n ≡ DAMAGED → ⊥) × (n ≡ UNCLEAN → ⊥)
 unfolding then first-of
-not-refused a v i ok clean =
-    rw (write-goes-on i a v, ok, clean) (not-these (wrong-address a) (is-value (value a (pages i)) v) (no-room a (pages i)) (order-end (pages i)))
+not-refused fm a v i ok clean =
+    rw (write-goes-on fm i a v, ok, clean) (not-these (wrong-address a) (is-value (value a (pages fm i)) v) (no-room a (pages fm i)) (order-end (pages fm i)))
   where
     not-these : (p q s t : Bool) → let n = cond p ADDRESS (cond q OK (cond s NO-ROOM (cond t ORDER-END OK))) in
         (n ≡ NO-STORE → ⊥) × (n ≡ DAMAGED → ⊥) × (n ≡ UNCLEAN → ⊥)

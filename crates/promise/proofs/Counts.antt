@@ -1,21 +1,22 @@
 -- How many steps the calls have, and how many of them are erases. Assumes nothing.
-use Prim.Native.Nat.{ℕ, zero, suc, _+_, _-_, _*_, _≤_, _<_}
+use Prim.Native.Nat.{ℕ, suc, _+_, _-_, _≤_, _<_}
 use mathlib.Core.Path.{_≡_, refl, ap, _∙_}
 use mathlib.Core.Bool.{true, false}
 use mathlib.Core.List.{List, [], _∷_, _++_}
 use native.Mathlib.Omega.{arith}
-use lib.ListN.{length, length-append, length-map}
+use lib.ListN.{length}
 use lib.Dec.{eqb, leb}
 use borrow.Author.Tests.{eqb-true, eqb-false, ne-eqb, leb-false}
 use Rattle.rules.specs.Flash.{Step, program, erase}
 use Rattle.rules.specs.Word.{Word, word, wear-word, opening-word, done-word, record-word, word-steps}
-use Rattle.rules.specs.Page.{Page, page, wear-place, opening-place, done-place, slot-place}
+use Rattle.rules.specs.Page.{Page, wear-place, opening-place, done-place, slot-place}
 use Rattle.rules.specs.Store.{Setting, setting, states, is-cleared, active-index, active-slots, free-slot, count, journal, put-all, settings, held, value}
-use Rattle.rules.specs.Steps.{Way, stay, append-to, open-at, move-to, renew, renew-all, format-steps, renewed-wear, add-steps, renewals, other}
+use Rattle.rules.specs.Steps.{Way, stay, append-to, open-at, move-to, renew, renewed-wear, add-steps, renewals, other}
 use Rattle.rules.specs.Steps.{copies, copy-steps, append-steps, open-steps, fill-steps, move-steps, taken, next-order, has-free-slot, is-value}
 use Rattle.rules.specs.Steps.{new-page, way, way-steps, write-steps}
-use Rattle.rules.specs.Call.{page-size, page-edition, cut, page-count, pages, is-held, no-room, write-number, OK}
+use Rattle.rules.specs.Call.{this-form, pages, is-held, no-room, write-number, OK}
 use Rattle.rules.proofs.Truth.{by-cases, not-both}
+use Rattle.rules.proofs.Lengths.{word-length, open-long, move-long}
 use Rattle.rules.proofs.Cut.{pages-long}
 use Rattle.rules.proofs.Settings.{copies-length}
 use Rattle.rules.proofs.Rows.{write-fails}
@@ -98,10 +99,11 @@ move-is a v ps m =
 pub move-wears : a-move-wears-all-but-one
 unfolding write-steps way-steps
 move-wears i a v ok m =
-    let fails = write-fails i a v ok in
-    let l = taken-within i (fails .stored) (fails .clean) in
-    let ps = pages i in
-    rw (move-is a v ps m) (move-erases page-edition (taken ps) (next-order ps) (copies a v ps) ps (rw (pages-long i) l) ∙ pages-long i)
+    let fails = write-fails this-form i a v ok in
+    let l = taken-within this-form i (fails .stored) (fails .clean) in
+    let ps = pages this-form i in
+    rw (move-is a v ps m) (move-erases (this-form .edition) (taken ps) (next-order ps) (copies a v ps) ps (rw (pages-long this-form i) l)
+    ∙ pages-long this-form i)
 
 -- the other ways
 way-erases : (edition a v : ℕ) (ps : List Page) (w : Way) → moves w ≡ false → erases (way-steps edition a v ps w) ≡ 0
@@ -115,80 +117,26 @@ way-erases edition a v ps (move-to p o) m = not-both refl m
 
 pub others-wear-none : another-write-wears-none
 unfolding write-steps
-others-wear-none i a v m = way-erases page-edition a v (pages i) (way a v (pages i)) m
+others-wear-none i a v m = way-erases (this-form .edition) a v (pages this-form i) (way a v (pages this-form i)) m
 
 -- ---- lengths
 
-word-length : (p at : ℕ) (w : Word) → length (word-steps p at w) ≡ 2
-unfolding word-steps
-word-length p at (word a b c d) = refl
-
-copies-long : (p k : ℕ) (rs : List Setting) → length (copy-steps p k rs) ≡ 2 * length rs
-unfolding copy-steps
-copies-long p k [] = refl
-copies-long p k (setting a v ∷ rs) =
-    let w = record-word a v in
-    omega (arith, length-append (word-steps p (slot-place k) w) (copy-steps p (suc k) rs), word-length p (slot-place k) w, copies-long p (suc k) rs)
-
--- a page is renewed in three steps, of which one erases
-renew-long : (edition k n : ℕ) (ss : List Step) → length (renew edition k n ++ ss) ≡ 3 + length ss
-unfolding renew
-renew-long edition k n ss = omega (arith, length-append (word-steps k wear-place (wear-word edition n)) ss, word-length k wear-place (wear-word edition n))
-
-renewals-long : (edition t k : ℕ) (ps : List Page) → length (renewals edition (other t) k ps) ≡ 3 * erases (renewals edition (other t) k ps)
-unfolding renewals add-steps other erases
-renewals-long edition t k [] = refl
-renewals-long edition t k (p ∷ ps) =
-    let ss = renewals edition (other t) (suc k) ps in
-    let n = renewed-wear (p .wear) in
-    let rest = renewals-long edition t (suc k) ps in
-    by-cases (eqb k t) (λ e. rw e rest) (λ e. rw e (omega (arith, renew-long edition k n ss, erases-renew edition k n ss)))
-
-pub move-long : (edition p o : ℕ) (rs : List Setting) (ps : List Page) → p < length ps
-    → length (move-steps edition p o rs ps) ≡ 4 + 2 * length rs + 3 * (length ps - 1)
-unfolding move-steps fill-steps
-move-long edition p o rs ps l =
-    let opened = word-steps p opening-place (opening-word 2 o) in
-    let copied = copy-steps p 0 rs in
-    let done = word-steps p done-place (done-word o) in
-    omega (
-      arith,
-      length-append opened copied,
-      length-append (opened ++ copied) done,
-      length-append (opened ++ copied ++ done) (renewals edition (other p) 0 ps),
-      word-length p opening-place (opening-word 2 o),
-      copies-long p 0 rs,
-      word-length p done-place (done-word o),
-      renewals-long edition p 0 ps,
-      erases-others edition p 0 ps (omega arith) (omega arith),
-    )
-
-renew-all-long : (edition k n : ℕ) → length (renew-all edition k n) ≡ 3 * n
-unfolding renew-all
-renew-all-long edition k zero = refl
-renew-all-long edition k (suc n) = omega (arith, renew-long edition k 1 (renew-all edition (suc k) n), renew-all-long edition (suc k) n)
-
-pub format-long : (edition n : ℕ) → length (format-steps edition n) ≡ 3 * n + 2
-unfolding format-steps
-format-long edition n =
-    let w = opening-word 1 0 in
-    omega (arith, length-append (renew-all edition 0 n) (word-steps 0 opening-place w), renew-all-long edition 0 n, word-length 0 opening-place w)
-
 -- no more is copied than may be held
-copies-few : (a v : ℕ) (i : Image) → write-number a v i ≡ OK → is-value (value a (pages i)) v ≡ false → length (copies a v (pages i)) ≤ 192
+copies-few : (a v : ℕ) (i : Image) → write-number this-form a v i ≡ OK → is-value (value a (pages this-form i)) v ≡ false
+    → length (copies a v (pages this-form i)) ≤ 192
 unfolding copies settings value no-room is-held held
 copies-few a v i ok s =
-    let fails = write-fails i a v ok in
-    let J = journal (pages i) in
-    copies-length a v J 192 (held-few i (fails .stored))
+    let fails = write-fails this-form i a v ok in
+    let J = journal (pages this-form i) in
+    copies-length a v J 192 (held-few this-form i (fails .stored))
     (λ e.
     let r : leb 192 (length (put-all [] J)) ≡ false = rw e at (fails .room s) in
     leb-false 192 (length (put-all [] J)) r)
 
 pub not-longer : no-write-is-longer
-unfolding write-steps way way-steps new-page append-steps open-steps
+unfolding write-steps way way-steps new-page append-steps
 not-longer i a v ok =
-    let ps = pages i in
+    let ps = pages this-form i in
     by-cases (is-value (value a ps) v) (λ s. rw s (omega arith))
     (λ s.
     by-cases (has-free-slot ps)
@@ -196,16 +144,9 @@ not-longer i a v ok =
     (λ f.
     by-cases (leb 2 (count is-cleared (states ps)))
     (λ c.
-    let w = opening-word 1 (next-order ps) in
-    rw (s, f, c)
-    (omega (
-      arith,
-      length-append (word-steps (taken ps) opening-place w) (word-steps (taken ps) (slot-place 0) (record-word a v)),
-      word-length (taken ps) opening-place w,
-      word-length (taken ps) (slot-place 0) (record-word a v),
-    )))
+    rw (s, f, c) (omega (arith, open-long (taken ps) (next-order ps) a v)))
     (λ c.
-    let fails = write-fails i a v ok in
-    let many = pages-long i in
-    let inside = taken-within i (fails .stored) (fails .clean) in
-    rw (s, f, c) (omega (arith, move-long page-edition (taken ps) (next-order ps) (copies a v ps) ps (omega arith), copies-few a v i ok s)))))
+    let fails = write-fails this-form i a v ok in
+    let many = pages-long this-form i in
+    let inside = taken-within this-form i (fails .stored) (fails .clean) in
+    rw (s, f, c) (omega (arith, move-long (this-form .edition) (taken ps) (next-order ps) (copies a v ps) ps (omega arith), copies-few a v i ok s)))))

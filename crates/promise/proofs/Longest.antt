@@ -12,12 +12,12 @@ use lib.Dec.{leb}
 use borrow.Author.Tests.{le-leb, eq-eqb, ne-eqb}
 use Rattle.rules.specs.Word.{Word, word, words, wear-word, opening-word, zeros, check, checked, sound, blank, condition, slot-condition, low16, third}
 use Rattle.rules.specs.Word.{record-word}
-use Rattle.rules.specs.Page.{blank-word, open₁, Page, page, state, slots}
+use Rattle.rules.specs.Page.{size, blank-word, open₁, Page, page, state, slots}
 use Rattle.rules.specs.Store.{states, order₂, base, used, is-cleared, order, greatest, used-pages, add-page, active-order, active-index, index-of}
 use Rattle.rules.specs.Store.{is-active, slots-at, active-slots, past, free-slot, count, oldest-first, Setting, setting, add-record, records}
 use Rattle.rules.specs.Store.{all-records, journal, or-else, last-of, put, put-all, settings, value}
 use Rattle.rules.specs.Steps.{unclean, but, copies, has-free-slot, is-value, taken, next-order, new-page, way, way-steps, write-steps}
-use Rattle.rules.specs.Call.{page-size, page-edition, page-count, pages, cut, repeats, is-unclean, is-held, no-room, order-end, write-number, OK}
+use Rattle.rules.specs.Call.{this-form, page-count, pages, cut, repeats, is-unclean, is-held, no-room, order-end, write-number, OK}
 use Rattle.rules.proofs.Pages.{replicate-all-blank, wear-is-wear, opened-plain, fresh-cleared}
 use Rattle.rules.proofs.Slots.{blank-records, written}
 use Rattle.rules.proofs.Stores.{Below, Under, orders, under-below, journal-amid, repeats-insert}
@@ -29,10 +29,10 @@ use Rattle.rules.proofs.Active.{active-is}
 use Rattle.rules.proofs.Ready.{taken-within}
 use Rattle.rules.proofs.Good.{Frame, Good, long-whole, good-ordered, journal-is}
 use Rattle.rules.proofs.Healthy.{frame, Healthy, value-here, store-ok}
+use Rattle.rules.proofs.Lengths.{move-long}
 use Rattle.promise.specs.Calls.{Image}
 use Rattle.promise.specs.History.{write-of}
 use Rattle.promise.specs.Corollaries.{Longest, a-longest-write}
-use Rattle.promise.proofs.Counts.{move-long}
 
 -- ---- an image of pages of words
 
@@ -54,15 +54,15 @@ unfolding flat
 flat-length [] = refl
 flat-length (word a b c d ∷ ws) = let e = flat-length ws in omega arith
 
-cut-image : (F : Pages) → AllLength 256 F → cut page-size (length F) (image-of F) ≡ F
+cut-image : (F : Pages) → AllLength 256 F → cut (size this-form) (length F) (image-of F) ≡ F
 unfolding cut image-of AllLength
 cut-image [] h = refl
 cut-image (pg ∷ F) h =
     let e : 1024 ≡ length (flat pg) = (let l = flat-length pg in let m = h .0 in omega arith) in
     ap₂ (λ (x : List Word) (xs : Pages). x ∷ xs)
     (ap (λ (n : ℕ). words (take n (flat pg ++ image-of F))) e ∙ ap words (take-append-seam (flat pg) (image-of F)) ∙ words-flat pg)
-    (ap (λ (n : ℕ). cut page-size (length F) (drop n (flat pg ++ image-of F))) e
-    ∙ ap (cut page-size (length F)) (drop-append-seam (flat pg) (image-of F)) ∙ cut-image F (h .1))
+    (ap (λ (n : ℕ). cut (size this-form) (length F) (drop n (flat pg ++ image-of F))) e
+    ∙ ap (cut (size this-form) (length F)) (drop-append-seam (flat pg) (image-of F)) ∙ cut-image F (h .1))
 
 image-length : (F : Pages) → AllLength 256 F → length (image-of F) ≡ length F * 1024
 unfolding image-of AllLength
@@ -192,7 +192,7 @@ module _ (m : ℕ) (few : m ≤ 30) where
   two = omega arith
 
   abbrev c : Frame
-  c = frame ⊥ (suc (suc m)) two
+  c = frame this-form (omega arith) ⊥ (suc (suc m)) two
 
   good : Good c all store
   unfolding down
@@ -218,23 +218,24 @@ module _ (m : ℕ) (few : m ≤ 30) where
   abbrev image : Image
   image = image-of store
 
-  cut-is : cut page-size (suc (suc m)) image ≡ store
-  cut-is = ap (λ (n : ℕ). cut page-size n image) (sym (stack .many)) ∙ cut-image store (stack .long)
+  cut-is : cut (size this-form) (suc (suc m)) image ≡ store
+  cut-is = ap (λ (n : ℕ). cut (size this-form) n image) (sym (stack .many)) ∙ cut-image store (stack .long)
 
   sized : length image ≡ suc (suc m) * 1024
   sized = image-length store (stack .long) ∙ ap (λ (n : ℕ). n * 1024) (stack .many)
 
-  counted : page-count image ≡ suc (suc m)
+  counted : page-count this-form image ≡ suc (suc m)
   unfolding page-count
   counted = let e = sized in omega arith
 
-  pages-are : pages image ≡ ps
+  pages-are : pages this-form image ≡ ps
   unfolding pages
-  pages-are = ap (λ (n : ℕ). told 1 (cut page-size n image)) counted ∙ ap (told 1) cut-is
+  pages-are = ap (λ (n : ℕ). told 1 (cut (size this-form) n image)) counted ∙ ap (told 1) cut-is
 
-  healthy : Healthy ⊥ (λ x. last-of x all) image
+  healthy : Healthy this-form ⊥ (λ x. last-of x all) image
   healthy =
       record {
+        roomy = omega arith;
         count = suc (suc m);
         sized = sized;
         least = two;
@@ -242,11 +243,11 @@ module _ (m : ℕ) (few : m ≤ 30) where
         has = record { journal = all; values = λ x. refl; good = subst (Good c all) (sym cut-is) good };
       }
 
-  clean : is-unclean (states (pages image)) ≡ false
+  clean : is-unclean (states (pages this-form image)) ≡ false
   unfolding is-unclean
   clean = rw (pages-are, stack .is-base, stack .all-clean)
 
-  first-value : value 0 (pages image) ≡ some 0
+  first-value : value 0 (pages this-form image) ≡ some 0
   first-value = value-here healthy 0 ∙ computed .first-value
 
   newest : active-order (states ps) ≡ m
@@ -259,21 +260,21 @@ module _ (m : ℕ) (few : m ≤ 30) where
   none-free =
       rw (newest, stack .is-base, full-state, le-leb 0 m (omega arith), eq-eqb m m refl, computed .none-free, computed .many)
 
-  accepted : write-number 0 1 image ≡ OK
+  accepted : write-number this-form 0 1 image ≡ OK
   unfolding is-value no-room is-held order-end
   accepted =
-      write-ok 0 1 image (store-ok healthy) clean (omega arith) (rw first-value) (rw first-value)
+      write-ok this-form 0 1 image (store-ok healthy) clean (omega arith) (rw first-value) (rw first-value)
       (rw (pages-are, none-free, newest) (ne-eqb m 4194303 (λ e. omega arith)))
 
-  long : length (write-of 0 1 image) ≡ 388 + 3 * (suc (suc m) - 1)
+  long : length (write-of this-form 0 1 image) ≡ 388 + 3 * (suc (suc m) - 1)
   unfolding write-steps way way-steps new-page is-value copies settings
   long =
       let many : length ps ≡ suc (suc m) = length-map store (page 1) ∙ stack .many in
-      let inside : taken ps < length ps = rw (many, ← counted, ← pages-are) (taken-within image (store-ok healthy) clean) in
+      let inside : taken ps < length ps = rw (many, ← counted, ← pages-are) (taken-within this-form image (store-ok healthy) clean) in
       let copied : length (but 0 (put-all [] (journal ps)) ++ setting 0 1 ∷ []) ≡ 192 =
       rw (journal-is c all store good) (computed .copied-many) in
       rw (first-value, pages-are, none-free, stack .one-cleared)
-      (omega (arith, move-long page-edition (taken ps) (next-order ps) (copies 0 1 ps) ps inside))
+      (omega (arith, move-long (this-form .edition) (taken ps) (next-order ps) (copies 0 1 ps) ps inside))
 
 pub longest-there : a-longest-write
 longest-there n l h =

@@ -1,10 +1,11 @@
 -- The calls as the promise sees them: which outcomes of each are possible. The rules are one such set of calls, the exported
--- functions are another.
+-- functions are another. Each is of one form of pages.
 use Prim.Native.Nat.{ℕ, suc, _≤_}
 use mathlib.Core.Path.{_≡_}
 use mathlib.Core.Bool.{cond, not}
 use mathlib.Core.List.{List, [], _∷_}
 use lib.Dec.{eqb}
+use Rattle.rules.specs.Page.{Form}
 use Rattle.rules.specs.Call.{OK, Formatted, Stepped, Reading, Pairing, among, format, recover, write, read, blank-read, lookup}
 
 abbrev pub Image : Type 0
@@ -52,23 +53,23 @@ pub record Calls : Type 1 where
   pub Answers : (q : Question) → Image → Answer q → Type 0
 
 -- what the rules answer
-unfoldable pub answer : (q : Question) → Image → Answer q
-answer (value-at x) i = read x i
-answer (blank-value-at x) i = blank-read x i
-answer pairing-code i = lookup i
+unfoldable pub answer : (form : Form) (q : Question) → Image → Answer q
+answer fm (value-at x) i = read fm x i
+answer fm (blank-value-at x) i = blank-read fm x i
+answer fm pairing-code i = lookup fm i
 
-abbrev pub by-the-rules : Calls
-by-the-rules =
+abbrev pub by-the-rules : Form → Calls
+by-the-rules fm =
     record {
-      Formats = λ i f. f ≡ format i;
-      Recovers = λ n i s. s ≡ recover n i;
-      Writes = λ a v n i s. s ≡ write a v n i;
-      Answers = λ q i r. r ≡ answer q i;
+      Formats = λ i f. f ≡ format fm i;
+      Recovers = λ n i s. s ≡ recover fm n i;
+      Writes = λ a v n i s. s ≡ write fm a v n i;
+      Answers = λ q i r. r ≡ answer fm q i;
     }
 
 -- calls that do only what the rules say
-pub record Obeys (C : Calls) : Type 0 where
-  pub formats : (i : Image) (f : Formatted) → C .Formats i f → f ≡ format i
-  pub recovers : (n : ℕ) (i : Image) (s : Stepped) → C .Recovers n i s → s ≡ recover n i
-  pub writes : (a v n : ℕ) (i : Image) (s : Stepped) → C .Writes a v n i s → s ≡ write a v n i
-  pub answers : (q : Question) (i : Image) (r : Answer q) → C .Answers q i r → r ≡ answer q i
+pub record Obeys (fm : Form) (C : Calls) : Type 0 where
+  pub formats : (i : Image) (f : Formatted) → C .Formats i f → f ≡ format fm i
+  pub recovers : (n : ℕ) (i : Image) (s : Stepped) → C .Recovers n i s → s ≡ recover fm n i
+  pub writes : (a v n : ℕ) (i : Image) (s : Stepped) → C .Writes a v n i s → s ≡ write fm a v n i
+  pub answers : (q : Question) (i : Image) (r : Answer q) → C .Answers q i r → r ≡ answer fm q i

@@ -4,11 +4,12 @@ use mathlib.Core.Path.{_≡_}
 use mathlib.Core.Logic.{_⊎_}
 use mathlib.Core.Bool.{true, false}
 use Rattle.rules.specs.Store.{states}
-use Rattle.rules.specs.Call.{pages, is-unclean, OK, NO-STORE, DAMAGED, UNCLEAN, Stepped, Reading}
+use Rattle.rules.specs.Page.{Form}
+use Rattle.rules.specs.Call.{Roomy, pages, is-unclean, OK, NO-STORE, DAMAGED, UNCLEAN, Stepped, Reading}
 use Rattle.promise.specs.Calls.{Image, Question, value-at, Answer, Asks, finds, with-value, Calls, Obeys}
 use Rattle.promise.specs.History.{InUse, Recoveries, Interrupted}
 
-module _ (C : Calls) where
+module _ (fm : Form) (C : Calls) where
   -- k answers a question as i does; or as i does, with v as the value of a
   abbrev pub Same : (q : Question) (i k : Image) → Type 0
   Same q i k = (before after : Answer q) → C .Answers q i before → C .Answers q k after → after ≡ before
@@ -27,31 +28,32 @@ module _ (C : Calls) where
   -- Power fails anywhere in the next accepted write of a store in use, and perhaps in the recoveries after it.
   pub record NothingLost (a v : ℕ) (i : Image) : Type 0 where
     -- Every other address answers as before.
-    pub others : {n : ℕ} {k : Image} → Interrupted C a v i n k → (q : Question) → (Asks q a → ⊥) → Same q i k
+    pub others : {n : ℕ} {k : Image} → Interrupted fm C a v i n k → (q : Question) → (Asks q a → ⊥) → Same q i k
     -- The written address answers as before the write, or with the new value.
-    pub old-or-new : {n : ℕ} {k : Image} → Interrupted C a v i n k → (q : Question) → Same q i k ⊎ Changed a v q i k
+    pub old-or-new : {n : ℕ} {k : Image} → Interrupted fm C a v i n k → (q : Question) → Same q i k ⊎ Changed a v q i k
     -- If a failure at one step leaves the new value, a failure at any later step leaves it too.
-    pub new-stays : {n m : ℕ} {k l : Image} → Interrupted C a v i n k → Interrupted C a v i m l → n < m
+    pub new-stays : {n m : ℕ} {k l : Image} → Interrupted fm C a v i n k → Interrupted fm C a v i m l → n < m
         → (q : Question) (old one later : Answer q) → C .Answers q i old → C .Answers q k one → C .Answers q l later
         → one ≡ with-value a v q old → later ≡ with-value a v q old
     -- The store is in use again.
-    pub still-in-use : {n : ℕ} {k : Image} → Interrupted C a v i n k → InUse C k
+    pub still-in-use : {n : ℕ} {k : Image} → Interrupted fm C a v i n k → InUse fm C k
 
   -- What a recovery makes of a store in use.
   pub record Mended (i : Image) : Type 0 where
     -- Wherever it was stopped, and however often, every answer is as before.
-    pub answers : {k : Image} → Recoveries C i k → (q : Question) → Same q i k
+    pub answers : {k : Image} → Recoveries fm C i k → (q : Question) → Same q i k
     -- It is accepted.
     pub accepted : (n : ℕ) (s : Stepped) → C .Recovers n i s → s .number ≡ OK
     -- When it has finished, no page is unclean, and a write is not refused as NO STORE, DAMAGED or UNCLEAN.
-    pub clean : (n : ℕ) (s : Stepped) → C .Recovers n i s → s .finished ≡ true → is-unclean (states (pages (s .image))) ≡ false
+    pub clean : (n : ℕ) (s : Stepped) → C .Recovers n i s → s .finished ≡ true → is-unclean (states (pages fm (s .image))) ≡ false
     pub writable : (n : ℕ) (s : Stepped) → C .Recovers n i s → s .finished ≡ true → (a v m : ℕ) (w : Stepped) → C .Writes a v m (s .image) w
         → (w .number ≡ NO-STORE → ⊥) × (w .number ≡ DAMAGED → ⊥) × (w .number ≡ UNCLEAN → ⊥)
 
   pub record KeepsItsWord : Type 0 where
     pub finds-what-is-written : (i : Image) (a v n : ℕ) (s : Stepped) → C .Writes a v n i s → s .number ≡ OK → s .finished ≡ true → Found a v i (s .image)
-    pub loses-nothing : (i : Image) → InUse C i → (a v : ℕ) → NothingLost a v i
-    pub mends : (i : Image) → InUse C i → Mended i
+    pub loses-nothing : (i : Image) → InUse fm C i → (a v : ℕ) → NothingLost a v i
+    pub mends : (i : Image) → InUse fm C i → Mended i
 
+-- whatever the form of the pages, if a page has more slots than addresses may be held
 abbrev pub the-promise : Type 1
-the-promise = (C : Calls) → Obeys C → KeepsItsWord C
+the-promise = (fm : Form) → Roomy fm → (C : Calls) → Obeys fm C → KeepsItsWord fm C

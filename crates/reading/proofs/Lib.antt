@@ -1,1 +1,2 @@
+-- Laws of the code's own, for its proofs and for the crates below.
 pub mod Values

@@ -1,25 +1,28 @@
--- The value of an address in a store that was opened. Assumes nothing.
-use Prim.Native.Nat.{ℕ, _≤_, _<_}
-use mathlib.Core.Path.{_≡_, refl, sym, ap, _∙_}
-use mathlib.Core.Bool.{Bool, true, false, cond, not, _||_}
-use mathlib.Core.List.{List, [], _∷_}
-use mathlib.Core.Option.{Option, none, some}
-use native.Mathlib.Omega.{arith}
-use lib.ListN.{length}
+-- The blank value of an address, and the four of a pairing. Assumes nothing.
+use Prim.Native.Nat.{ℕ}
+use mathlib.Core.Path.{_≡_, sym, ap}
+use mathlib.Core.Bool.{false, not, _||_}
+use mathlib.Core.List.{List}
+use mathlib.Core.Option.{Option}
 use lib.Dec.{eqb}
 use borrow.Author.Tests.{eq-eqb, ne-eqb, eqb-true, eqb-false}
-use Rattle.rules.specs.Store.{last-of, settings}
+use Rattle.rules.specs.Page.{Form}
+use Rattle.rules.specs.Store.{Setting, last-of, settings}
 use Rattle.rules.specs.Call.{pages, or-value, not-held-value, blank-value, digits}
 use Rattle.rules.proofs.Truth.{by-cases}
 use Rattle.rules.proofs.Held.{value-is}
 use Rattle.reading.specs.Answers.{code-in}
 
-module _ (i : List ℕ) where
-  pub blank-is : (a : ℕ) → or-value (last-of a (settings (pages i))) not-held-value ≡ blank-value a i
-  unfolding blank-value
-  blank-is a = ap (λ (o : Option ℕ). or-value o not-held-value) (value-is i a)
+-- the value of an address in a table, 255 if it is not there
+abbrev pub blank-in : (address : ℕ) → List Setting → ℕ
+blank-in a t = or-value (last-of a t) not-held-value
 
-  pub code-is : code-in (settings (pages i)) ≡ digits i
+module _ (fm : Form) (i : List ℕ) where
+  pub blank-is : (a : ℕ) → blank-in a (settings (pages fm i)) ≡ blank-value fm a i
+  unfolding blank-value
+  blank-is a = ap (λ (o : Option ℕ). or-value o not-held-value) (value-is fm i a)
+
+  pub code-is : code-in (settings (pages fm i)) ≡ digits fm i
   unfolding code-in digits
   code-is = rw (blank-is 16, blank-is 17, blank-is 18, blank-is 19)
 

@@ -1,14 +1,20 @@
 // The calls that leave the image as it is: read, blank read and pairing lookup. An image of any length and content is lawful.
+use pages::Form;
+use settings::HELD_MAX;
 use settings::Held;
-use settings::Settings;
+use settings::NO_ADDRESS;
+use settings::NO_VALUE;
+use survey::ADDRESS;
+use survey::NOT_HELD;
+use survey::OK;
 ghost use mathlib.Core.Path.{_≡_};
 ghost use mathlib.Core.Bool.{not};
 ghost use mathlib.Core.List.{List, [], _∷_};
 ghost use Prim.Native.Nat.{ℕ, _≤_, _<_};
 ghost use lib.ListN.{length};
-ghost use Rattle.rules.specs.Store.{Setting, last-of};
+ghost use Rattle.rules.specs.Store.{Setting, Rising, last-of};
 ghost use Rattle.rules.specs.Call.{or-value, not-held-value, among, read, blank-read, lookup};
-ghost use Rattle.rules.proofs.Settings.{Rising};
+ghost use Rattle.pages.specs.Read.{as-form, Lawful};
 ghost use Rattle.settings.specs.Held.{Holds};
 ghost use Rattle.reading.specs.Answers.{as-reading, as-pairing, Coded};
 
@@ -28,87 +34,98 @@ pub struct Pairing {
     pub digit3: u8,
 }
 
+// What a blank read gives of an address that is not held.
+const BLANK: u8 = 255;
+
 // The value of an address, 255 if it is not held.
-fn value_or_blank(s: Settings, address: u16) -> u8
-    ensures { λ r. ⌜ ((t : List Setting) → Rising t → length t ≤ 192 → address < 65535 → Holds (s .addresses) (s .values) (s .held) t → r ≡ or-value (last-of address t) not-held-value) ⌝ }
+fn value_or_blank<'a>(
+    addresses: &'a [u16; HELD_MAX],
+    values: &'a [u8; HELD_MAX],
+    address: u16,
+) -> u8
+    ensures { λ r. ⌜ ((t : List Setting) (held : ℕ) → Rising t → length t ≤ 192 → address < 65535 → Holds (now (addresses .entry)) (now (values .entry)) held t → r ≡ or-value (last-of address t) not-held-value) ⌝ }
 {
-    match settings::value_of(s, address) {
+    match settings::value_in(addresses, values, address) {
         Held::Value(value) => value,
-        Held::Nothing => 255,
+        Held::Nothing => BLANK,
     }
 }
 
-pub fn read(image: &[u8], address: u16) -> Reading
-    ensures { λ r. ⌜ as-reading r ≡ read address (now (image .entry)) ⌝ }
+pub fn read(image: &[u8], form: Form, address: u16) -> Reading
+    requires { ⌜ Lawful form ⌝ }
+    ensures { λ r. ⌜ as-reading r ≡ read (as-form form) address (now (image .entry)) ⌝ }
 {
-    let store = store::open(image);
+    let mut addresses = [NO_ADDRESS; HELD_MAX];
+    let mut values = [NO_VALUE; HELD_MAX];
+    let store = store::open(image, form, &mut addresses, &mut values);
     let number = store.number;
-    if number != 0 {
+    if number != OK {
         return Reading { number, value: 0 };
     }
-    if address == 65535 {
+    if address == NO_ADDRESS {
         return Reading {
-            number: 5,
+            number: ADDRESS,
             value: 0,
         };
     }
-    let s = store.settings;
-    match settings::value_of(s, address) {
-        Held::Value(value) => Reading { number: 0, value },
+    match settings::value_in(&addresses, &values, address) {
+        Held::Value(value) => Reading { number: OK, value },
         Held::Nothing => Reading {
-            number: 8,
+            number: NOT_HELD,
             value: 0,
         },
     }
 }
 
-pub fn blank_read(image: &[u8], address: u16) -> Reading
-    ensures { λ r. ⌜ as-reading r ≡ blank-read address (now (image .entry)) ⌝ }
+pub fn blank_read(image: &[u8], form: Form, address: u16) -> Reading
+    requires { ⌜ Lawful form ⌝ }
+    ensures { λ r. ⌜ as-reading r ≡ blank-read (as-form form) address (now (image .entry)) ⌝ }
 {
-    let store = store::open(image);
+    let mut addresses = [NO_ADDRESS; HELD_MAX];
+    let mut values = [NO_VALUE; HELD_MAX];
+    let store = store::open(image, form, &mut addresses, &mut values);
     let number = store.number;
-    if number != 0 {
+    if number != OK {
         return Reading { number, value: 0 };
     }
-    if address == 65535 {
+    if address == NO_ADDRESS {
         return Reading {
-            number: 5,
+            number: ADDRESS,
             value: 0,
         };
     }
-    let s = store.settings;
     Reading {
-        number: 0,
-        value: value_or_blank(s, address),
+        number: OK,
+        value: value_or_blank(&addresses, &values, address),
     }
 }
 
-// "paired exactly if none of them is 255"
+// C19. Pairing lookup: paired if none of the digits is 255.
 fn all_given(a: u8, b: u8, c: u8, d: u8) -> bool
     ensures { λ r. ⌜ r ≡ not (among 255 (a ∷ b ∷ c ∷ d ∷ [])) ⌝ }
 {
-    if a == 255 {
+    if a == BLANK {
         return false;
     }
-    if b == 255 {
+    if b == BLANK {
         return false;
     }
-    if c == 255 {
+    if c == BLANK {
         return false;
     }
-    d != 255
+    d != BLANK
 }
 
 // The four digits of the pairing code, at the addresses 16 to 19.
-fn pairing_of(s: Settings) -> Pairing
-    ensures { λ r. ⌜ Coded s r ⌝ }
+fn pairing_of<'a>(addresses: &'a [u16; HELD_MAX], values: &'a [u8; HELD_MAX]) -> Pairing
+    ensures { λ r. ⌜ Coded (now (addresses .entry)) (now (values .entry)) r ⌝ }
 {
-    let digit0 = value_or_blank(s, 16);
-    let digit1 = value_or_blank(s, 17);
-    let digit2 = value_or_blank(s, 18);
-    let digit3 = value_or_blank(s, 19);
+    let digit0 = value_or_blank(addresses, values, 16);
+    let digit1 = value_or_blank(addresses, values, 17);
+    let digit2 = value_or_blank(addresses, values, 18);
+    let digit3 = value_or_blank(addresses, values, 19);
     Pairing {
-        number: 0,
+        number: OK,
         paired: all_given(digit0, digit1, digit2, digit3),
         digit0,
         digit1,
@@ -117,12 +134,15 @@ fn pairing_of(s: Settings) -> Pairing
     }
 }
 
-pub fn lookup(image: &[u8]) -> Pairing
-    ensures { λ r. ⌜ as-pairing r ≡ lookup (now (image .entry)) ⌝ }
+pub fn lookup(image: &[u8], form: Form) -> Pairing
+    requires { ⌜ Lawful form ⌝ }
+    ensures { λ r. ⌜ as-pairing r ≡ lookup (as-form form) (now (image .entry)) ⌝ }
 {
-    let store = store::open(image);
+    let mut addresses = [NO_ADDRESS; HELD_MAX];
+    let mut values = [NO_VALUE; HELD_MAX];
+    let store = store::open(image, form, &mut addresses, &mut values);
     let number = store.number;
-    if number != 0 {
+    if number != OK {
         return Pairing {
             number,
             paired: false,
@@ -132,6 +152,5 @@ pub fn lookup(image: &[u8]) -> Pairing
             digit3: 0,
         };
     }
-    let s = store.settings;
-    pairing_of(s)
+    pairing_of(&addresses, &values)
 }

@@ -1,15 +1,15 @@
 -- The active page and the page that is taken, in any store whose used pages have different orders. Assumes nothing.
-use Prim.Native.Nat.{ℕ, zero, suc, _+_, _-_, _≤_, _<_}
-use mathlib.Core.Path.{_≡_, refl, sym, ap, ap₂, _∙_, subst}
-use mathlib.Core.Bool.{Bool, true, false}
-use mathlib.Core.List.{List, [], _∷_, _++_, map}
+use Prim.Native.Nat.{ℕ, suc, _+_, _-_, _<_}
+use mathlib.Core.Path.{_≡_, sym, ap, ap₂, _∙_, subst}
+use mathlib.Core.Bool.{true, false}
+use mathlib.Core.List.{List, [], _∷_, _++_}
 use native.Mathlib.Omega.{arith}
 use lib.ListN.{length, length-map, replicate, length-replicate}
-use lib.Dec.{ltb}
 use borrow.Author.Tests.{ltb-true}
 use Rattle.rules.specs.Word.{Word}
 use Rattle.rules.specs.Page.{blank-word, is-wear, cleared, Page, page, state, slots}
-use Rattle.rules.specs.Store.{states, base, used, is-cleared, used-orders, greatest, active-order, active-index, active-slots, slots-at, is-active, index-of, used-pages, free-slot, count, index}
+use Rattle.rules.specs.Store.{states, base, is-cleared, used-orders, greatest, active-order, active-index, active-slots, slots-at}
+use Rattle.rules.specs.Store.{is-active, index-of, used-pages, free-slot, count, index}
 use Rattle.rules.specs.Steps.{unclean, taken, has-free-slot}
 use Rattle.rules.specs.Call.{among, repeats}
 use Rattle.rules.proofs.Cut.{AllLength}
@@ -17,7 +17,8 @@ use Rattle.rules.proofs.Phases.{Pages}
 use Rattle.rules.proofs.Told.{told, Parted, parted, Headed, headed, length-amid}
 use Rattle.rules.proofs.Pages.{cleared-is}
 use Rattle.rules.proofs.Slots.{FreeAt, free-at}
-use Rattle.rules.proofs.Stores.{length-states, orders, orders-used, greatest-among, greatest-upto, Under, upto-under, ActiveAt, active-at, taken-at, slots-amid, count-all, count-used}
+use Rattle.rules.proofs.Stores.{length-states, orders, orders-used, greatest-among, greatest-upto, Under, upto-under, ActiveAt, active-at}
+use Rattle.rules.proofs.Stores.{taken-at, slots-amid, count-all, count-used}
 
 -- A store whose used pages, of which there are some, have different orders: by its base order and those orders.
 pub record Ordered (edition k b : ℕ) (os : List ℕ) (F : Pages) : Type 0 where
@@ -66,11 +67,14 @@ module _ (edition k b : ℕ) (os : List ℕ) (F : Pages) (g : Ordered edition k 
 
 module _ (edition m b : ℕ) (os : List ℕ) (F : Pages) (g : Ordered edition (suc (suc (suc m))) b os F) where
   -- the free slot of the active page
-  pub active-free : has-free-slot (told edition F) ≡ true → (hd : Headed m (at-active edition (suc (suc (suc m))) b os F g .here)) × FreeAt (hd .ws) × (free-slot (active-slots (told edition F)) ≡ free-slot (hd .ws))
+  pub active-free : has-free-slot (told edition F) ≡ true
+      → (hd : Headed m (at-active edition (suc (suc (suc m))) b os F g .here)) × FreeAt (hd .ws)
+      × (free-slot (active-slots (told edition F)) ≡ free-slot (hd .ws))
   unfolding has-free-slot slots
   active-free free =
       let at = at-active edition (suc (suc (suc m))) b os F g in
-      let hd = headed m (at .here) (length-amid (suc (suc (suc m))) (at .front) (at .here) (at .rest) (subst (AllLength (suc (suc (suc m)))) (at .form) (g .long))) in
+      let hd = headed m (at .here) (length-amid (suc (suc (suc m))) (at .front) (at .here) (at .rest)
+      (subst (AllLength (suc (suc (suc m)))) (at .form) (g .long))) in
       let sl : active-slots (told edition F) ≡ hd .ws = slots-active edition (suc (suc (suc m))) b os F g ∙ ap slots (hd .form) in
       (hd, free-at (hd .ws) (ltb-true (free-slot (hd .ws)) (length (hd .ws)) (rw sl at free)), ap free-slot sl)
 
@@ -109,7 +113,8 @@ takes edition m F long h =
     }
 
 -- a store all of whose pages are used or cleared has as many cleared ones as are not used
-pub some-cleared : (edition k b n : ℕ) (os : List ℕ) (F : Pages) → Ordered edition k b os F → length F ≡ n → count (unclean b) (states (told edition F)) ≡ 0 → length os + count is-cleared (states (told edition F)) ≡ n
+pub some-cleared : (edition k b n : ℕ) (os : List ℕ) (F : Pages) → Ordered edition k b os F → length F ≡ n
+    → count (unclean b) (states (told edition F)) ≡ 0 → length os + count is-cleared (states (told edition F)) ≡ n
 some-cleared edition k b n os F g lf c =
     let all = count-all b (states (told edition F)) in
     let us = count-used b (told edition F) in

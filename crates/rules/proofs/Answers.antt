@@ -1,18 +1,21 @@
 -- What each call answers, test by test: the laws that the calls in code cite. Assumes nothing.
-use Prim.Native.Nat.{ℕ, zero, suc, _+_, _≤_, _<_}
-use mathlib.Core.Path.{_≡_, refl, sym, ap, _∙_, subst}
-use mathlib.Core.Bool.{Bool, true, false, cond, not, _&&_, _||_}
+use Prim.Native.Nat.{ℕ, zero, suc, _<_}
+use mathlib.Core.Path.{_≡_, refl, _∙_}
+use mathlib.Core.Bool.{true, false, not}
 use mathlib.Core.List.{List, [], _∷_}
-use mathlib.Core.Option.{Option, none, some}
+use mathlib.Core.Option.{none, some}
 use native.Mathlib.Omega.{arith}
 use lib.ListN.{length, take}
-use lib.Dec.{eqb, leb, ltb}
-use borrow.Author.Tests.{le-leb, lt-leb, eq-eqb, ne-eqb}
+use lib.Dec.{leb}
+use borrow.Author.Tests.{le-leb, lt-leb, ne-eqb}
 use Rattle.rules.specs.Flash.{Step, run}
+use Rattle.rules.specs.Page.{Form, size}
 use Rattle.rules.specs.Store.{states, value}
 use Rattle.rules.specs.Steps.{format-steps, is-value}
 use Rattle.rules.proofs.Rows.{blank-read-goes-on, read-goes-on, write-more, write-goes-on}
-use Rattle.rules.specs.Call.{first-of, page-size, page-edition, page-count, pages, wrong-size, store-number, then, write-number, blank-read-number, read-number, is-unclean, wrong-address, is-held, no-room, order-end, accepted, format, stepped, write, read, or-value, blank-value, blank-read, digits, among, lookup, OK, SIZE, ADDRESS, NOT-HELD, UNCLEAN, NO-ROOM, ORDER-END}
+use Rattle.rules.specs.Call.{first-of, page-count, pages, wrong-size, store-number, then, write-number, blank-read-number, read-number}
+use Rattle.rules.specs.Call.{is-unclean, wrong-address, is-held, no-room, order-end, accepted, format, stepped, read, or-value}
+use Rattle.rules.specs.Call.{blank-value, blank-read, digits, among, lookup, OK, SIZE, ADDRESS, NOT-HELD, UNCLEAN, NO-ROOM, ORDER-END}
 
 -- ---- numbers
 
@@ -39,107 +42,111 @@ other-address a l = lt-leb 65535 a l
 
 -- ---- format
 
-pub format-refused : (i : List ℕ) → wrong-size i ≡ true → format i ≡ record { number = SIZE; image = i }
+pub format-refused : (fm : Form) (i : List ℕ) → wrong-size fm i ≡ true → format fm i ≡ record { number = SIZE; image = i }
 unfolding format
-format-refused i w = rw w
+format-refused fm i w = rw w
 
-pub format-done : (i : List ℕ) → wrong-size i ≡ false → format i ≡ record { number = OK; image = run page-size (format-steps page-edition (page-count i)) i }
+pub format-done : (fm : Form) (i : List ℕ) → wrong-size fm i ≡ false
+    → format fm i ≡ record { number = OK; image = run (size fm) (format-steps (fm .edition) (page-count fm i)) i }
 unfolding format
-format-done i w = rw w
+format-done fm i w = rw w
 
 -- ---- read
 
-module _ (i : List ℕ) (a : ℕ) where
-  pub read-refused : (store-number i ≡ 0 → ⊥) → read a i ≡ record { number = store-number i; value = 0 }
+module _ (fm : Form) (i : List ℕ) (a : ℕ) where
+  pub read-refused : (store-number fm i ≡ 0 → ⊥) → read fm a i ≡ record { number = store-number fm i; value = 0 }
   unfolding read
   read-refused h =
-      let e : blank-read-number a i ≡ store-number i = blank-read-goes-on i a ∙ then-refused (store-number i) _ h in
-      let f : read-number a i ≡ store-number i = read-goes-on i a ∙ rw e (then-refused (store-number i) _ h) in
-      rw (f, not-accepted (store-number i) h)
+      let e : blank-read-number fm a i ≡ store-number fm i = blank-read-goes-on fm i a ∙ then-refused (store-number fm i) _ h in
+      let f : read-number fm a i ≡ store-number fm i = read-goes-on fm i a ∙ rw e (then-refused (store-number fm i) _ h) in
+      rw (f, not-accepted (store-number fm i) h)
 
-  module _ (ok : store-number i ≡ 0) where
-    pub read-last : a ≡ 65535 → read a i ≡ record { number = ADDRESS; value = 0 }
+  module _ (ok : store-number fm i ≡ 0) where
+    pub read-last : a ≡ 65535 → read fm a i ≡ record { number = ADDRESS; value = 0 }
     unfolding read then accepted
-    read-last e = rw (read-goes-on i a, blank-read-goes-on i a, ok, last-address a e)
+    read-last e = rw (read-goes-on fm i a, blank-read-goes-on fm i a, ok, last-address a e)
 
-    pub read-found : (v : ℕ) → a < 65535 → value a (pages i) ≡ some v → read a i ≡ record { number = OK; value = v }
+    pub read-found : (v : ℕ) → a < 65535 → value a (pages fm i) ≡ some v → read fm a i ≡ record { number = OK; value = v }
     unfolding read then accepted is-held or-value
-    read-found v l e = rw (read-goes-on i a, blank-read-goes-on i a, ok, other-address a l, e)
+    read-found v l e = rw (read-goes-on fm i a, blank-read-goes-on fm i a, ok, other-address a l, e)
 
-    pub read-nothing : a < 65535 → value a (pages i) ≡ none → read a i ≡ record { number = NOT-HELD; value = 0 }
+    pub read-nothing : a < 65535 → value a (pages fm i) ≡ none → read fm a i ≡ record { number = NOT-HELD; value = 0 }
     unfolding read then accepted is-held or-value
-    read-nothing l e = rw (read-goes-on i a, blank-read-goes-on i a, ok, other-address a l, e)
+    read-nothing l e = rw (read-goes-on fm i a, blank-read-goes-on fm i a, ok, other-address a l, e)
 
   -- ---- blank read
 
-  pub blank-read-refused : (store-number i ≡ 0 → ⊥) → blank-read a i ≡ record { number = store-number i; value = 0 }
+  pub blank-read-refused : (store-number fm i ≡ 0 → ⊥) → blank-read fm a i ≡ record { number = store-number fm i; value = 0 }
   unfolding blank-read
   blank-read-refused h =
-      let e : blank-read-number a i ≡ store-number i = blank-read-goes-on i a ∙ then-refused (store-number i) _ h in
-      rw (e, not-accepted (store-number i) h)
+      let e : blank-read-number fm a i ≡ store-number fm i = blank-read-goes-on fm i a ∙ then-refused (store-number fm i) _ h in
+      rw (e, not-accepted (store-number fm i) h)
 
-  module _ (ok : store-number i ≡ 0) where
-    pub blank-read-last : a ≡ 65535 → blank-read a i ≡ record { number = ADDRESS; value = 0 }
+  module _ (ok : store-number fm i ≡ 0) where
+    pub blank-read-last : a ≡ 65535 → blank-read fm a i ≡ record { number = ADDRESS; value = 0 }
     unfolding blank-read then accepted
-    blank-read-last e = rw (blank-read-goes-on i a, ok, last-address a e)
+    blank-read-last e = rw (blank-read-goes-on fm i a, ok, last-address a e)
 
-    pub blank-read-found : a < 65535 → blank-read a i ≡ record { number = OK; value = blank-value a i }
+    pub blank-read-found : a < 65535 → blank-read fm a i ≡ record { number = OK; value = blank-value fm a i }
     unfolding blank-read then accepted
-    blank-read-found l = rw (blank-read-goes-on i a, ok, other-address a l)
+    blank-read-found l = rw (blank-read-goes-on fm i a, ok, other-address a l)
 
 -- ---- lookup
 
-pub lookup-refused : (i : List ℕ) → (store-number i ≡ 0 → ⊥) → lookup i ≡ record { number = store-number i; paired = false; digits = 0 ∷ 0 ∷ 0 ∷ 0 ∷ [] }
+pub lookup-refused : (fm : Form) (i : List ℕ) → (store-number fm i ≡ 0 → ⊥)
+    → lookup fm i ≡ record { number = store-number fm i; paired = false; digits = 0 ∷ 0 ∷ 0 ∷ 0 ∷ [] }
 unfolding lookup
-lookup-refused i h = rw (not-accepted (store-number i) h)
+lookup-refused fm i h = rw (not-accepted (store-number fm i) h)
 
-pub lookup-done : (i : List ℕ) → store-number i ≡ 0 → lookup i ≡ record { number = OK; paired = not (among 255 (digits i)); digits = digits i }
+pub lookup-done : (fm : Form) (i : List ℕ) → store-number fm i ≡ 0
+    → lookup fm i ≡ record { number = OK; paired = not (among 255 (digits fm i)); digits = digits fm i }
 unfolding lookup accepted
-lookup-done i ok = rw ok
+lookup-done fm i ok = rw ok
 
 -- ---- recovery and write
 
-module _ (number n : ℕ) (ss : List Step) (i : List ℕ) where
-  pub stepped-refused : (number ≡ 0 → ⊥) → stepped number n ss i ≡ record { number = number; steps = 0; finished = false; image = i }
+module _ (fm : Form) (number n : ℕ) (ss : List Step) (i : List ℕ) where
+  pub stepped-refused : (number ≡ 0 → ⊥) → stepped fm number n ss i ≡ record { number = number; steps = 0; finished = false; image = i }
   unfolding stepped
   stepped-refused h = rw (not-accepted number h)
 
-  pub stepped-done : number ≡ 0 → stepped number n ss i ≡ record { number = OK; steps = length (take n ss); finished = leb (length ss) n; image = run page-size (take n ss) i }
+  pub stepped-done : number ≡ 0
+      → stepped fm number n ss i ≡ record { number = OK; steps = length (take n ss); finished = leb (length ss) n; image = run (size fm) (take n ss) i }
   unfolding stepped accepted
   stepped-done e = rw e
 
 -- the number of a write, test by test
-module _ (a v : ℕ) (i : List ℕ) where
-  pub write-store : (store-number i ≡ 0 → ⊥) → write-number a v i ≡ store-number i
-  write-store h = write-goes-on i a v ∙ then-refused (store-number i) _ h
+module _ (fm : Form) (a v : ℕ) (i : List ℕ) where
+  pub write-store : (store-number fm i ≡ 0 → ⊥) → write-number fm a v i ≡ store-number fm i
+  write-store h = write-goes-on fm i a v ∙ then-refused (store-number fm i) _ h
 
-  module _ (ok : store-number i ≡ 0) where
-    behind : write-number a v i ≡ first-of (write-more i a v)
-    behind = write-goes-on i a v ∙ then-ok (store-number i) _ ok
+  module _ (ok : store-number fm i ≡ 0) where
+    behind : write-number fm a v i ≡ first-of (write-more fm i a v)
+    behind = write-goes-on fm i a v ∙ then-ok (store-number fm i) _ ok
 
-    pub write-unclean : is-unclean (states (pages i)) ≡ true → write-number a v i ≡ UNCLEAN
+    pub write-unclean : is-unclean (states (pages fm i)) ≡ true → write-number fm a v i ≡ UNCLEAN
     unfolding first-of
     write-unclean u = behind ∙ rw u
 
-    module _ (clean : is-unclean (states (pages i)) ≡ false) where
-      pub write-last : a ≡ 65535 → write-number a v i ≡ ADDRESS
+    module _ (clean : is-unclean (states (pages fm i)) ≡ false) where
+      pub write-last : a ≡ 65535 → write-number fm a v i ≡ ADDRESS
       unfolding first-of
       write-last e = behind ∙ rw (clean, last-address a e)
 
       module _ (far : a < 65535) where
-        pub write-same : is-value (value a (pages i)) v ≡ true → write-number a v i ≡ OK
+        pub write-same : is-value (value a (pages fm i)) v ≡ true → write-number fm a v i ≡ OK
         unfolding first-of
         write-same e = behind ∙ rw (clean, other-address a far, e)
 
-        module _ (new : is-value (value a (pages i)) v ≡ false) where
-          pub write-full : no-room a (pages i) ≡ true → write-number a v i ≡ NO-ROOM
+        module _ (new : is-value (value a (pages fm i)) v ≡ false) where
+          pub write-full : no-room a (pages fm i) ≡ true → write-number fm a v i ≡ NO-ROOM
           unfolding first-of
           write-full e = behind ∙ rw (clean, other-address a far, new, e)
 
-          pub write-end : no-room a (pages i) ≡ false → order-end (pages i) ≡ true → write-number a v i ≡ ORDER-END
+          pub write-end : no-room a (pages fm i) ≡ false → order-end (pages fm i) ≡ true → write-number fm a v i ≡ ORDER-END
           unfolding first-of
           write-end e f = behind ∙ rw (clean, other-address a far, new, e, f)
 
-          pub write-ok : no-room a (pages i) ≡ false → order-end (pages i) ≡ false → write-number a v i ≡ OK
+          pub write-ok : no-room a (pages fm i) ≡ false → order-end (pages fm i) ≡ false → write-number fm a v i ≡ OK
           unfolding first-of
           write-ok e f = behind ∙ rw (clean, other-address a far, new, e, f)

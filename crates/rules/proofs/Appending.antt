@@ -21,8 +21,7 @@ use Rattle.rules.proofs.Told.{told, Parted}
 use Rattle.rules.proofs.Active as Active
 use Rattle.rules.proofs.Active.{active-place, active-free}
 use Rattle.rules.proofs.Good.{Frame, slots-in, words-in, Turning, Whole, Keeps, Good, whole-amid, whole-word, keeps-base, keeps-orders}
-use Rattle.rules.proofs.Good.{keeps-journal, keeps-with}
-use Rattle.rules.proofs.Good.{good-still, good-ordered}
+use Rattle.rules.proofs.Good.{keeps-journal, keeps-with, good-still, good-ordered}
 
 -- a page that is used and newer than every other used one
 pub record Newest (edition b : ℕ) (f : Pages) (pg : List Word) (r : Pages) : Type 0 where
@@ -34,26 +33,26 @@ pub record Newest (edition b : ℕ) (f : Pages) (pg : List Word) (r : Pages) : T
 abbrev pub others : (edition b : ℕ) (f r : Pages) → List Setting
 others edition b f r = all-records (oldest-first (used-pages b (told edition f) ++ used-pages b (told edition r)))
 
-module _ (c : Frame) (b : ℕ) (os : List ℕ) (f : Pages) (pg : List Word) (r : Pages) (new : Newest (c .edition) b f pg r) where
+module _ (c : Frame) (b : ℕ) (os : List ℕ) (f : Pages) (pg : List Word) (r : Pages) (new : Newest (c .form .edition) b f pg r) where
   abbrev fp : List Page
-  fp = told (c .edition) f
+  fp = told (c .form .edition) f
 
   abbrev rp : List Page
-  rp = told (c .edition) r
+  rp = told (c .form .edition) r
 
   module _ (J : List Setting) (h : Keeps c b os J (f ++ pg ∷ r)) where
-    newest-journal : J ≡ others (c .edition) b f r ++ records (slots pg)
+    newest-journal : J ≡ others (c .form .edition) b f r ++ records (slots pg)
     unfolding page
-    newest-journal = sym (keeps-journal c b os J f pg r h) ∙ journal-amid b fp (page (c .edition) pg) rp (new .is-used) (new .before) (new .behind)
+    newest-journal = sym (keeps-journal c b os J f pg r h) ∙ journal-amid b fp (page (c .form .edition) pg) rp (new .is-used) (new .before) (new .behind)
 
     -- its slots change and its state does not
-    newest-slots : (qg : List Word) → state (c .edition) pg ≡ state (c .edition) qg → Whole c qg
-        → Keeps c b os (others (c .edition) b f r ++ records (slots qg)) (f ++ qg ∷ r)
+    newest-slots : (qg : List Word) → state (c .form .edition) pg ≡ state (c .form .edition) qg → Whole c qg
+        → Keeps c b os (others (c .form .edition) b f r ++ records (slots qg)) (f ++ qg ∷ r)
     unfolding page orders
     newest-slots qg e w =
-        let p = page (c .edition) pg in
-        let q = page (c .edition) qg in
-        let u : used b (state (c .edition) qg) ≡ true = rw e at (new .is-used) in
+        let p = page (c .form .edition) pg in
+        let q = page (c .form .edition) qg in
+        let u : used b (state (c .form .edition) qg) ≡ true = rw e at (new .is-used) in
         keeps-with c b os J f pg r h qg w
         (base-amid fp q rp ∙ ap (λ (s : State). max (base (states fp)) (max (order₂ s) (base (states rp)))) (sym e)
         ∙ sym (base-amid fp p rp) ∙ keeps-base c b os J f pg r h)
@@ -70,17 +69,17 @@ module _ (c : Frame) (b : ℕ) (os : List ℕ) (J : List Setting) (f : Pages) (x
   abbrev holding : Word → List Word
   holding v = x ∷ y ∷ z ∷ (xs ++ v ∷ ys)
 
-  module _ (new : Newest (c .edition) b f (holding blank-word) r) (blanks : all-blank ys ≡ true) (h : Keeps c b os J (f ++ holding blank-word ∷ r)) where
+  module _ (new : Newest (c .form .edition) b f (holding blank-word) r) (blanks : all-blank ys ≡ true) (h : Keeps c b os J (f ++ holding blank-word ∷ r)) where
     -- the records of the store, those of this page being rs
     abbrev with-records : List Setting → List Setting
-    with-records rs = others (c .edition) b f r ++ rs
+    with-records rs = others (c .form .edition) b f r ++ rs
 
     held-keeps : (v : Word) → Light v → Keeps c b os (with-records (records (xs ++ v ∷ ys))) (f ++ holding v ∷ r)
     unfolding slots
     held-keeps v l =
-        let open-page = used-open b (state (c .edition) (holding blank-word)) (new .is-used) .0 in
+        let open-page = used-open b (state (c .form .edition) (holding blank-word)) (new .is-used) .0 in
         newest-slots c b os f (holding blank-word) r new J h (holding v)
-        (open-by-header (c .edition) x y z (xs ++ blank-word ∷ ys) (xs ++ v ∷ ys) open-page)
+        (open-by-header (c .form .edition) x y z (xs ++ blank-word ∷ ys) (xs ++ v ∷ ys) open-page)
         (whole-word c (x ∷ y ∷ z ∷ xs) blank-word v ys (whole-amid c f (holding blank-word) r (h .whole) .1) l)
 
     -- a word that is not sound adds nothing
@@ -102,7 +101,7 @@ module _ (c : Frame) (b : ℕ) (os : List ℕ) (J : List Setting) (f : Pages) (x
         records-append xs (w ∷ ys)
         ∙ ap (λ (rs : List Setting). records xs ++ rs) (made-record a v ys ne ∙ ap (λ (rs : List Setting). setting a v ∷ rs) (blank-records ys blanks)) in
         let new-journal : with-records (records (xs ++ w ∷ ys)) ≡ J ++ setting a v ∷ [] =
-        ap with-records gained ∙ sym (append-assoc (others (c .edition) b f r) (records xs) (setting a v ∷ []))
+        ap with-records gained ∙ sym (append-assoc (others (c .form .edition) b f r) (records xs) (setting a v ∷ []))
         ∙ ap (λ (j : List Setting). j ++ setting a v ∷ []) (sym before-it) in
         rw place
         (word-turns (words-in c) f r (x ∷ y ∷ z ∷ xs) ys (c .May) (Keeps c b os J) (Keeps c b os (J ++ setting a v ∷ [])) w (record-sound a v)
@@ -124,7 +123,7 @@ module _ (c : Frame) (J : List Setting) (a v : ℕ) (ok : Writable c J a) (F : P
 
   -- the record goes into a free slot of the newest page, wherever that is
   pub append-good : (f : Pages) (x y z : Word) (xs ys : List Word) (r : Pages) → F ≡ f ++ (x ∷ y ∷ z ∷ (xs ++ blank-word ∷ ys)) ∷ r
-      → Newest (c .edition) (g .base-order) f (x ∷ y ∷ z ∷ (xs ++ blank-word ∷ ys)) r → all-blank ys ≡ true → Gains (length f) (length xs)
+      → Newest (c .form .edition) (g .base-order) f (x ∷ y ∷ z ∷ (xs ++ blank-word ∷ ys)) r → all-blank ys ≡ true → Gains (length f) (length xs)
   append-good f x y z xs ys r e new blanks =
       let b = g .base-order in
       let os = g .used-by in
@@ -132,34 +131,34 @@ module _ (c : Frame) (J : List Setting) (a v : ℕ) (ok : Writable c J a) (F : P
       (turns-map (good-still c J F g J (g .few)) (good-still c J F g (J ++ setting a v ∷ []) (append-few a v J (c .limit) (g .few) (ok .room)))
       (append-turns c b os J f x y z xs ys r new blanks (subst (Keeps c b os J) e (g .keeps)) a v (ok .address)))
 
-  abbrev active : ActiveAt (g .base-order) (greatest (g .used-by)) (told (c .edition) F)
-  active = Active.active (c .edition) (words-in c) (g .base-order) (g .used-by) F (good-ordered c J F g)
+  abbrev active : ActiveAt (g .base-order) (greatest (g .used-by)) (told (c .form .edition) F)
+  active = Active.active (c .form .edition) (words-in c) (g .base-order) (g .used-by) F (good-ordered c J F g)
 
-  abbrev at-active : Parted (c .edition) F (active .front) (active .page) (active .rest)
-  at-active = Active.at-active (c .edition) (words-in c) (g .base-order) (g .used-by) F (good-ordered c J F g)
+  abbrev at-active : Parted (c .form .edition) F (active .front) (active .page) (active .rest)
+  at-active = Active.at-active (c .form .edition) (words-in c) (g .base-order) (g .used-by) F (good-ordered c J F g)
 
-  active-newest : Newest (c .edition) (g .base-order) (at-active .front) (at-active .here) (at-active .rest)
+  active-newest : Newest (c .form .edition) (g .base-order) (at-active .front) (at-active .here) (at-active .rest)
   unfolding page
   active-newest =
-      let e : state (c .edition) (at-active .here) ≡ active .page .state = ap (λ (p : Page). p .state) (at-active .here-told) in
-      let o : order (state (c .edition) (at-active .here)) ≡ greatest (g .used-by) = ap order e ∙ active .is-order in
+      let e : state (c .form .edition) (at-active .here) ≡ active .page .state = ap (λ (p : Page). p .state) (at-active .here-told) in
+      let o : order (state (c .form .edition) (at-active .here)) ≡ greatest (g .used-by) = ap order e ∙ active .is-order in
       record {
         is-used = rw e (active .is-used);
         before = rw (o, at-active .front-told) (active .before);
         behind = rw (o, at-active .rest-told) (active .behind);
       }
 
-  pub append-case : has-free-slot (told (c .edition) F) ≡ true
-      → let ps = told (c .edition) F in
+  pub append-case : has-free-slot (told (c .form .edition) F) ≡ true
+      → let ps = told (c .form .edition) F in
       Turning c (Good c J) (Good c (J ++ setting a v ∷ [])) (append-steps (active-index (states ps)) (free-slot (active-slots ps)) a v) F
   unfolding append-steps
   append-case free =
-      let t = active-free (c .edition) (slots-in c) (g .base-order) (g .used-by) F (good-ordered c J F g) free in
+      let t = active-free (c .form .edition) (slots-in c) (g .base-order) (g .used-by) F (good-ordered c J F g) free in
       let hd = t .0 in
       let at = t .1 in
       let pg-is : at-active .here ≡ hd .x ∷ hd .y ∷ hd .z ∷ (at .front ++ blank-word ∷ at .rest) =
       hd .form ∙ ap (λ (ws : List Word). hd .x ∷ hd .y ∷ hd .z ∷ ws) (at .form) in
-      rw (active-place (c .edition) (words-in c) (g .base-order) (g .used-by) F (good-ordered c J F g), t .2 ∙ sym (at .place))
+      rw (active-place (c .form .edition) (words-in c) (g .base-order) (g .used-by) F (good-ordered c J F g), t .2 ∙ sym (at .place))
       (append-good (at-active .front) (hd .x) (hd .y) (hd .z) (at .front) (at .rest) (at-active .rest)
       (at-active .form ∙ ap (λ (q : List Word). at-active .front ++ q ∷ at-active .rest) pg-is)
-      (subst (λ (q : List Word). Newest (c .edition) (g .base-order) (at-active .front) q (at-active .rest)) pg-is active-newest) (at .behind))
+      (subst (λ (q : List Word). Newest (c .form .edition) (g .base-order) (at-active .front) q (at-active .rest)) pg-is active-newest) (at .behind))

@@ -9,14 +9,13 @@ use native.Mathlib.Omega.{arith}
 use lib.ListN.{length, length-append, replicate}
 use lib.Seq.{append-snoc}
 use Rattle.rules.specs.Flash.{Step}
-use Rattle.rules.specs.Word.{Word, sound, record-word, opening-word, done-word, word-steps}
-use Rattle.rules.specs.Page.{blank-word, slot-place, opening-place, done-place}
+use Rattle.rules.specs.Word.{Word, sound, record-word, word-steps}
+use Rattle.rules.specs.Page.{blank-word, slot-place}
 use Rattle.rules.specs.Store.{Setting, setting}
 use Rattle.rules.specs.Steps.{copy-steps}
-use Rattle.rules.proofs.Words.{Light, record-sound, opening-sound, done-sound, sound-light}
+use Rattle.rules.proofs.Words.{Light, record-sound, sound-light}
 use Rattle.rules.proofs.Phases.{Pages, Through, end, store-run, store-run-append, through-append, word-run, word-through}
 use Rattle.rules.proofs.Slots.{written}
-use Rattle.rules.proofs.Active.{taken-page}
 
 -- blank slots for the records to come, and then ys
 unfoldable pub room : List Setting → List Word → List Word
@@ -86,39 +85,3 @@ Doable k = Through k ⊥ (λ F. Unit {0})
 pub word-any : (k : ℕ) (f r : Pages) (xs ys : List Word) (w : Word) → sound w ≡ true
     → Doable k (word-steps (length f) (length xs) w) (f ++ (xs ++ blank-word ∷ ys) ∷ r)
 word-any k f r xs ys w s = word-through k f r xs ys ⊥ (λ F. Unit {0}) w s (λ v l. tt)
-
--- a record in a free slot
-pub append-any : (k : ℕ) (f : Pages) (x y z : Word) (xs ys : List Word) (r : Pages) (a v : ℕ)
-    → Doable k (word-steps (length f) (slot-place (length xs)) (record-word a v)) (f ++ (x ∷ y ∷ z ∷ (xs ++ blank-word ∷ ys)) ∷ r)
-append-any k f x y z xs ys r a v =
-    let e : slot-place (length xs) ≡ length (x ∷ y ∷ z ∷ xs) = omega arith in
-    rw e (word-any k f r (x ∷ y ∷ z ∷ xs) ys (record-word a v) (record-sound a v))
-
--- an opening word, and a record in slot 0
-pub open-any : (k m′ : ℕ) (f : Pages) (w : Word) (r : Pages) (o a v : ℕ)
-    → Doable k (word-steps (length f) opening-place (opening-word 1 o) ++ word-steps (length f) (slot-place 0) (record-word a v))
-    (f ++ taken-page (suc m′) w ∷ r)
-open-any k m′ f w r o a v =
-    let O = opening-word 1 o in
-    let ran = word-run k f r (w ∷ []) (replicate (suc (suc m′)) blank-word) O in
-    through-append (word-steps (length f) (slot-place 0) (record-word a v))
-    (word-any k f r (w ∷ []) (replicate (suc (suc m′)) blank-word) O (opening-sound 1 o))
-    (subst (Doable k (word-steps (length f) (slot-place 0) (record-word a v))) (sym ran) (append-any k f w O blank-word [] (replicate m′ blank-word) r a v))
-
--- an opening word, copies, and the done word
-pub move-any : (k m : ℕ) (f : Pages) (w : Word) (r : Pages) (o : ℕ) (cs : List Setting) → length cs ≤ m
-    → Doable k (word-steps (length f) opening-place (opening-word 2 o) ++ copy-steps (length f) 0 cs ++ word-steps (length f) done-place (done-word o))
-    (f ++ taken-page m w ∷ r)
-move-any k m f w r o cs h =
-    let O = opening-word 2 o in
-    let ys = replicate (m - length cs) blank-word in
-    let copying = copy-steps (length f) 0 cs in
-    let doing = word-steps (length f) done-place (done-word o) in
-    let opened : store-run k (word-steps (length f) opening-place O) (f ++ taken-page m w ∷ r) ≡ f ++ (w ∷ O ∷ blank-word ∷ room cs ys) ∷ r =
-    word-run k f r (w ∷ []) (replicate (suc m) blank-word) O ∙ ap (λ (ws : List Word). f ++ (w ∷ O ∷ blank-word ∷ ws) ∷ r) (room-is cs m h) in
-    let first = word-any k f r (w ∷ []) (replicate (suc m) blank-word) O (opening-sound 2 o) in
-    let second = copy-through k f r w O ys ⊥ (λ F. Unit {0}) (λ ws. Unit {0}) (λ ws q. tt) (λ xs v zs l q. tt) cs [] tt in
-    let both = through-append copying first (subst (Doable k copying) (sym opened) second) in
-    let ran = store-run-append k (word-steps (length f) opening-place O) copying (f ++ taken-page m w ∷ r)
-    ∙ ap (store-run k copying) opened ∙ copy-run k f r w O ys cs [] in
-    through-append doing both (subst (Doable k doing) (sym ran) (word-any k f r (w ∷ O ∷ []) (written cs ++ ys) (done-word o) (done-sound o)))

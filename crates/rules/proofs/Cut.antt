@@ -10,8 +10,8 @@ use lib.Seq.{sets, take-set-le, take-set-lt, drop-set-lt, drop-set-add, drop-dro
 use Rattle.rules.specs.Flash.{Half, first, second, half-offset, Step, program, erase, offset, aim, bytes-at, Allowed, after, AllRise, none}
 use Rattle.rules.specs.Flash.{more, least, Fails}
 use Rattle.rules.specs.Word.{Word, word, words}
-use Rattle.rules.specs.Page.{blank-word, page}
-use Rattle.rules.specs.Call.{page-size, page-edition, cut, page-count, pages}
+use Rattle.rules.specs.Page.{Form, size, blank-word, page}
+use Rattle.rules.specs.Call.{cut, page-count, pages}
 use Rattle.rules.proofs.Bits.{rises-refl, rises-top}
 use Rattle.rules.proofs.Words.{rise}
 use Rattle.rules.proofs.Shape.{with-half, target, page-after, WordsRise, half-way, erasing, store-after, StoreFails, Within}
@@ -66,7 +66,7 @@ module _ {ℓ} {A : Type ℓ} where
 next-word : (w j : ℕ) → 4 * suc w + j ≡ suc (suc (suc (suc (4 * w + j))))
 next-word w j = omega arith
 
-next-words : (k : ℕ) → 4 * suc k ≡ suc (suc (suc (suc (4 * k))))
+pub next-words : (k : ℕ) → 4 * suc k ≡ suc (suc (suc (suc (4 * k))))
 next-words k = omega arith
 
 pub words-length : (k : ℕ) (i : List ℕ) → length i ≡ 4 * k → length (words i) ≡ k
@@ -135,9 +135,9 @@ cut-length size zero i = refl
 cut-length size (suc n) i = ap suc (cut-length size n (drop size i))
 
 -- an image has as many pages as its length says
-pub pages-long : (i : List ℕ) → length (pages i) ≡ page-count i
+pub pages-long : (fm : Form) (i : List ℕ) → length (pages fm i) ≡ page-count fm i
 unfolding pages
-pages-long i = length-map (cut page-size (page-count i) i) (page page-edition) ∙ cut-length page-size (page-count i) i
+pages-long fm i = length-map (cut (size fm) (page-count fm i) i) (page (fm .edition)) ∙ cut-length (size fm) (page-count fm i) i
 
 -- the words of page p
 pub cut-page : (size n p : ℕ) (i : List ℕ) → p < n → getD (cut size n i) p [] ≡ words (bytes-at (p * size) size i)

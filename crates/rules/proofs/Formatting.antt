@@ -19,7 +19,7 @@ use Rattle.rules.proofs.Good.{Frame, slots-in, AllWhole, Good}
 
 module _ (c : Frame) where
   abbrev e : ℕ
-  e = c .edition
+  e = c .form .edition
 
   -- a cleared page of wear 1, n of them, and the store that a format leaves, all of c's form
   abbrev clear-page : List Word

@@ -1,5 +1,5 @@
 -- A good store: the invariant behind the promise, and that it outlasts whatever befalls a page that is not used. Assumes nothing.
-use Prim.Native.Nat.{ℕ, suc, _≤_, _<_}
+use Prim.Native.Nat.{ℕ, _≤_, _<_}
 use mathlib.Core.Path.{_≡_, sym, ap, _∙_, subst}
 use mathlib.Core.Bool.{false, cond}
 use mathlib.Core.List.{List, [], _∷_, _++_}
@@ -8,7 +8,7 @@ use lib.ListN.{length, length-append}
 use lib.Dec.{eqb}
 use Rattle.rules.specs.Flash.{Step}
 use Rattle.rules.specs.Word.{Word}
-use Rattle.rules.specs.Page.{Page, page, state}
+use Rattle.rules.specs.Page.{Form, word-count, Page, page, state}
 use Rattle.rules.specs.Store.{states, base, used, used-pages, oldest-first, journal, Setting, last-of, put-all, all-records}
 use Rattle.rules.specs.Steps.{next-order}
 use Rattle.rules.specs.Call.{repeats}
@@ -21,23 +21,23 @@ use Rattle.rules.proofs.Cut.{AllLength}
 use Rattle.rules.proofs.Told.{told, told-amid}
 use Rattle.rules.proofs.Active.{Ordered, next-under}
 
--- What stays the same all through: the edition, the last slot of a page, the number of pages, how many addresses may be held,
+-- What stays the same all through: the form of the pages, their number, how many addresses may be held,
 -- and whether power may fail. A page takes all that may be held.
 pub record Frame : Type 1 where
-  pub edition : ℕ
-  pub last-slot : ℕ
+  pub form : Form
   pub pages : ℕ
   pub limit : ℕ
   pub May : Type 0
   pub two : 2 ≤ pages
-  pub fits : limit ≤ suc last-slot
+  pub some : 0 < form .slot-count
+  pub fits : limit ≤ form .slot-count
 
 -- the slots of a page, and its words
 abbrev pub slots-in : Frame → ℕ
-slots-in c = suc (c .last-slot)
+slots-in c = c .form .slot-count
 
 abbrev pub words-in : Frame → ℕ
-words-in c = suc (suc (suc (slots-in c)))
+words-in c = word-count (c .form)
 
 -- what holds all through steps, and what turns at one of them
 abbrev pub Throughout : (c : Frame) → (Pages → Type 0) → List Step → Pages → Type 0
@@ -59,9 +59,9 @@ AllWhole c (pg ∷ F) = Whole c pg × AllWhole c F
 pub record Keeps (c : Frame) (b : ℕ) (os : List ℕ) (J : List Setting) (F : Pages) : Type 0 where
   pub whole : AllWhole c F
   pub count : length F ≡ c .pages
-  pub is-base : base (states (told (c .edition) F)) ≡ b
-  pub has-orders : orders (used-pages b (told (c .edition) F)) ≡ os
-  pub has-journal : all-records (oldest-first (used-pages b (told (c .edition) F))) ≡ J
+  pub is-base : base (states (told (c .form .edition) F)) ≡ b
+  pub has-orders : orders (used-pages b (told (c .form .edition) F)) ≡ os
+  pub has-journal : all-records (oldest-first (used-pages b (told (c .form .edition) F))) ≡ J
 
 -- The invariant: no two used pages of one order, a page to spare, a page in use, and no more held than may be.
 pub record Good (c : Frame) (J : List Setting) (F : Pages) : Type 0 where
@@ -120,22 +120,22 @@ module _ (c : Frame) where
 module _ (c : Frame) (b : ℕ) (os : List ℕ) (J : List Setting) (f : Pages) (pg : List Word) (r : Pages) (h : Keeps c b os J (f ++ pg ∷ r)) where
   -- what the pages say, with qg there
   abbrev pub told-with : List Word → List Page
-  told-with qg = told (c .edition) f ++ page (c .edition) qg ∷ told (c .edition) r
+  told-with qg = told (c .form .edition) f ++ page (c .form .edition) qg ∷ told (c .form .edition) r
 
   pub keeps-base : base (states (told-with pg)) ≡ b
-  keeps-base = rw (told-amid (c .edition) f pg r) at (h .is-base)
+  keeps-base = rw (told-amid (c .form .edition) f pg r) at (h .is-base)
 
   pub keeps-orders : orders (used-pages b (told-with pg)) ≡ os
-  keeps-orders = rw (told-amid (c .edition) f pg r) at (h .has-orders)
+  keeps-orders = rw (told-amid (c .form .edition) f pg r) at (h .has-orders)
 
   pub keeps-journal : all-records (oldest-first (used-pages b (told-with pg))) ≡ J
-  keeps-journal = rw (told-amid (c .edition) f pg r) at (h .has-journal)
+  keeps-journal = rw (told-amid (c .form .edition) f pg r) at (h .has-journal)
 
   pub keeps-with : (qg : List Word) → Whole c qg → {b′ : ℕ} {os′ : List ℕ} {J′ : List Setting} → base (states (told-with qg)) ≡ b′
       → orders (used-pages b′ (told-with qg)) ≡ os′ → all-records (oldest-first (used-pages b′ (told-with qg))) ≡ J′ → Keeps c b′ os′ J′ (f ++ qg ∷ r)
   keeps-with qg w {b′} {os′} {J′} eb eo ej =
       let t = whole-amid c f pg r (h .whole) in
-      let e = told-amid (c .edition) f qg r in
+      let e = told-amid (c .form .edition) f qg r in
       record {
         whole = amid-whole c f qg r (t .0) w (t .2);
         count = length-append f (qg ∷ r) ∙ sym (length-append f (pg ∷ r)) ∙ h .count;
@@ -145,14 +145,15 @@ module _ (c : Frame) (b : ℕ) (os : List ℕ) (J : List Setting) (f : Pages) (p
       }
 
   -- a page that is not used fades, and the store keeps its journal
-  pub keeps-fade : (qg : List Word) → used b (state (c .edition) pg) ≡ false → Fades (state (c .edition) pg) (state (c .edition) qg) → Whole c qg
+  pub keeps-fade : (qg : List Word) → used b (state (c .form .edition) pg) ≡ false → Fades (state (c .form .edition) pg) (state (c .form .edition) qg)
+      → Whole c qg
       → Keeps c b os J (f ++ qg ∷ r)
   unfolding page
   keeps-fade qg u d w =
-      let fp = told (c .edition) f in
-      let rp = told (c .edition) r in
-      let e = fade-pages fp (page (c .edition) pg) (page (c .edition) qg) rp b u d in
-      keeps-with qg w (fade-base fp (page (c .edition) pg) (page (c .edition) qg) rp (rw keeps-base u) d ∙ keeps-base) (ap orders e ∙ keeps-orders)
+      let fp = told (c .form .edition) f in
+      let rp = told (c .form .edition) r in
+      let e = fade-pages fp (page (c .form .edition) pg) (page (c .form .edition) qg) rp b u d in
+      keeps-with qg w (fade-base fp (page (c .form .edition) pg) (page (c .form .edition) qg) rp (rw keeps-base u) d ∙ keeps-base) (ap orders e ∙ keeps-orders)
       (ap (λ (ps : List Page). all-records (oldest-first ps)) e ∙ keeps-journal)
 
 -- ---- what a good store is
@@ -163,18 +164,18 @@ module _ (c : Frame) (J : List Setting) (F : Pages) (g : Good c J F) where
   good-still K few G h =
       record { base-order = g .base-order; used-by = g .used-by; keeps = h; apart = g .apart; spare = g .spare; some = g .some; few = few }
 
-  pub good-ordered : Ordered (c .edition) (words-in c) (g .base-order) (g .used-by) F
+  pub good-ordered : Ordered (c .form .edition) (words-in c) (g .base-order) (g .used-by) F
   good-ordered =
       record { long = whole-long c F (g .keeps .whole); is-base = g .keeps .is-base; has-orders = g .keeps .has-orders; apart = g .apart; some = g .some }
 
   -- the next order is above all in use
-  pub good-under : Under (next-order (told (c .edition) F)) (g .used-by)
+  pub good-under : Under (next-order (told (c .form .edition) F)) (g .used-by)
   unfolding next-order
-  good-under = next-under (c .edition) (words-in c) (g .base-order) (g .used-by) F good-ordered
+  good-under = next-under (c .form .edition) (words-in c) (g .base-order) (g .used-by) F good-ordered
 
-  pub journal-is : journal (told (c .edition) F) ≡ J
+  pub journal-is : journal (told (c .form .edition) F) ≡ J
   unfolding journal
   journal-is = rw (g .keeps .is-base) (g .keeps .has-journal)
 
   pub journal-lawful : Lawful J
-  journal-lawful = subst Lawful (g .keeps .has-journal) (all-records-lawful (oldest-first (used-pages (g .base-order) (told (c .edition) F))))
+  journal-lawful = subst Lawful (g .keeps .has-journal) (all-records-lawful (oldest-first (used-pages (g .base-order) (told (c .form .edition) F))))

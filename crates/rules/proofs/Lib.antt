@@ -1,5 +1,6 @@
 -- Laws about the definitions, which the crates below cite.
 pub mod Truth
+pub mod Lengths
 pub mod Bits
 pub mod Words
 pub mod Shape
@@ -27,4 +28,3 @@ pub mod Writing
 pub mod Formatting
 pub mod Healthy
 pub mod Laid
-pub mod Moves

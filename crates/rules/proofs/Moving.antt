@@ -75,7 +75,7 @@ module _ (c : Frame) (J : List Setting) (f : Pages) (w : Word) (r : Pages) (t : 
 
   receiving-keeps : (d : Word) (ws : List Word) → sound d ≡ false → Whole c (receives d ws) → Old (receiving d ws)
   unfolding opening-part done-part
-  receiving-keeps d ws s q = closed-keeps c J f w r t (receives d ws) q (undone-not-open (c .edition) (receives d ws) (opening-not-plain o) s)
+  receiving-keeps d ws s q = closed-keeps c J f w r t (receives d ws) q (undone-not-open (c .form .edition) (receives d ws) (opening-not-plain o) s)
 
   -- the steps, part by part
   module _ (cs : List Setting) (lawful : Lawful cs) (fits : length cs ≤ slots-in c) where
@@ -99,7 +99,7 @@ module _ (c : Frame) (J : List Setting) (f : Pages) (w : Word) (r : Pages) (t : 
 
     -- every other page is renewed
     abbrev renewing : Pages → List Step
-    renewing F = renewals (c .edition) (other (length f)) 0 (told (c .edition) F)
+    renewing F = renewals (c .form .edition) (other (length f)) 0 (told (c .form .edition) F)
 
     room-there : replicate (slots-in c) blank-word ≡ room cs (replicate j blank-word)
     room-there = room-is cs (slots-in c) fits
@@ -124,12 +124,12 @@ module _ (c : Frame) (J : List Setting) (f : Pages) (w : Word) (r : Pages) (t : 
     full = whole-amid c f (receives blank-word filled) r (subst Old copies-run (through-end copies-through) .whole) .1
 
     -- with its done word the page is the store
-    others-unused : NoneUsed o (told (c .edition) f) × NoneUsed o (told (c .edition) r)
+    others-unused : NoneUsed o (told (c .form .edition) f) × NoneUsed o (told (c .form .edition) r)
     others-unused =
         let b = t .good .base-order in
         let l : b ≤ o = (let x = base-below c J f w r t in omega arith) in
         let u = under-apart c J f w r t in
-        (none-used b o (told (c .edition) f) l (u .0), none-used b o (told (c .edition) r) l (u .1))
+        (none-used b o (told (c .form .edition) f) l (u .0), none-used b o (told (c .form .edition) r) l (u .1))
 
     filled-records : records filled ≡ cs
     filled-records =
@@ -141,15 +141,15 @@ module _ (c : Frame) (J : List Setting) (f : Pages) (w : Word) (r : Pages) (t : 
     unfolding page orders order order₂ used slots oldest-first insert all-records
     done-keeps =
         let qg = receives (done-word o) filled in
-        let q = page (c .edition) qg in
-        let e : state (c .edition) qg ≡ open₂ o = opened-received (c .edition) w (t .worn) o filled in
-        let fp = told (c .edition) f in
-        let rp = told (c .edition) r in
-        let z : order₂ (state (c .edition) qg) ≡ o = rw e in
+        let q = page (c .form .edition) qg in
+        let e : state (c .form .edition) qg ≡ open₂ o = opened-received (c .form .edition) w (t .worn) o filled in
+        let fp = told (c .form .edition) f in
+        let rp = told (c .form .edition) r in
+        let z : order₂ (state (c .form .edition) qg) ≡ o = rw e in
         let g = base-amid fp q rp in
         let a = base-apart c J f w r t in
         let l = base-below c J f w r t in
-        let u : used o (state (c .edition) qg) ≡ true = rw e (le-leb o o (omega arith)) in
+        let u : used o (state (c .form .edition) qg) ≡ true = rw e (le-leb o o (omega arith)) in
         let only : used-pages o (fp ++ q ∷ rp) ≡ q ∷ [] =
         used-amid o fp q rp u ∙ rw (none-used-pages o fp (others-unused .0), none-used-pages o rp (others-unused .1)) in
         keeps-with c (t .good .base-order) (t .good .used-by) J f (taken-page (slots-in c) w) r (t .good .keeps) qg
@@ -174,19 +174,19 @@ module _ (c : Frame) (J : List Setting) (f : Pages) (w : Word) (r : Pages) (t : 
     renewing-same =
         let was = taken-page (slots-in c) w in
         let is = receives (done-word o) filled in
-        ap (renewals (c .edition) (other (length f)) 0) (told-amid (c .edition) f is r)
-        ∙ renewals-skip (c .edition) (other (length f)) 0 (told (c .edition) f) (page (c .edition) is) (page (c .edition) was)
-        (told (c .edition) r) (rw length-map other-not)
-        ∙ ap (renewals (c .edition) (other (length f)) 0) (sym (told-amid (c .edition) f was r))
+        ap (renewals (c .form .edition) (other (length f)) 0) (told-amid (c .form .edition) f is r)
+        ∙ renewals-skip (c .form .edition) (other (length f)) 0 (told (c .form .edition) f) (page (c .form .edition) is) (page (c .form .edition) was)
+        (told (c .form .edition) r) (rw length-map other-not)
+        ∙ ap (renewals (c .form .edition) (other (length f)) 0) (sym (told-amid (c .form .edition) f was r))
 
     others-through : Throughout c New (renewing (pages-now c J f w r t)) (receiving (done-word o) filled)
     others-through =
         let G = receiving (done-word o) filled in
         subst (λ (ss : List Step). Throughout c New ss G) renewing-same
         (renewals-through c o (o ∷ []) cs (other (length f)) [] G
-        (idle-amid (c .edition) o (other (length f)) 0 f (receives (done-word o) filled) r (others-unused .0) (others-unused .1) other-not) done-keeps)
+        (idle-amid (c .form .edition) o (other (length f)) 0 f (receives (done-word o) filled) r (others-unused .0) (others-unused .1) other-not) done-keeps)
 
-    pub move-turns : Turning c Old New (move-steps (c .edition) (length f) o cs (told (c .edition) (pages-now c J f w r t))) (pages-now c J f w r t)
+    pub move-turns : Turning c Old New (move-steps (c .form .edition) (length f) o cs (told (c .form .edition) (pages-now c J f w r t))) (pages-now c J f w r t)
     unfolding move-steps fill-steps
     move-turns =
         let F = pages-now c J f w r t in

@@ -1,6 +1,6 @@
 -- A cleared page is taken and opened, and a record goes into its first slot. Assumes nothing.
-use Prim.Native.Nat.{ℕ, suc, _≤_, _<_, max}
-use mathlib.Core.Path.{_≡_, refl, sym, ap, _∙_, subst}
+use Prim.Native.Nat.{ℕ, zero, suc, _-_, _≤_, _<_, max}
+use mathlib.Core.Path.{_≡_, sym, ap, _∙_, subst}
 use mathlib.Core.Logic.{inr}
 use mathlib.Core.Bool.{true, false}
 use mathlib.Core.List.{List, [], _∷_, _++_, append-nil}
@@ -21,13 +21,17 @@ use Rattle.rules.proofs.Phases.{Pages, word-turns, word-run, turns-map,
 use Rattle.rules.proofs.Told.{told}
 use Rattle.rules.proofs.Active.{taken-page}
 use Rattle.rules.proofs.Good.{Frame, slots-in, words-in, Turning, Whole, Keeps, Good, whole-amid, whole-word, keeps-base, keeps-orders}
-use Rattle.rules.proofs.Good.{keeps-journal, keeps-with}
-use Rattle.rules.proofs.Good.{keeps-fade, good-still, good-under}
+use Rattle.rules.proofs.Good.{keeps-journal, keeps-with, keeps-fade, good-still, good-under}
 use Rattle.rules.proofs.Appending.{Newest, others, Writable, append-good}
+
+-- a page with a slot has a first one
+one-blank : (m : ℕ) → 0 < m → replicate m blank-word ≡ blank-word ∷ replicate (m - 1) blank-word
+one-blank zero l = absurd (omega arith)
+one-blank (suc m) l = let e : m ≡ suc m - 1 = omega arith in ap (λ (n : ℕ). blank-word ∷ replicate n blank-word) e
 
 -- a good store with a cleared page that is taken, w being its wear word
 pub record Taking (c : Frame) (J : List Setting) (f : Pages) (w : Word) (r : Pages) : Type 0 where
-  pub worn : is-wear (c .edition) w ≡ true
+  pub worn : is-wear (c .form .edition) w ≡ true
   pub good : Good c J (f ++ taken-page (slots-in c) w ∷ r)
 
 module _ (c : Frame) (J : List Setting) (f : Pages) (w : Word) (r : Pages) (t : Taking c J f w r) where
@@ -40,7 +44,7 @@ module _ (c : Frame) (J : List Setting) (f : Pages) (w : Word) (r : Pages) (t : 
 
   -- the order that the page is to have
   abbrev pub next : ℕ
-  next = next-order (told (c .edition) pages-now)
+  next = next-order (told (c .form .edition) pages-now)
 
   -- the page with v for its opening word
   abbrev pub begun : Word → List Word
@@ -53,22 +57,22 @@ module _ (c : Frame) (J : List Setting) (f : Pages) (w : Word) (r : Pages) (t : 
   h = t .good .keeps
 
   abbrev fp : List Page
-  fp = told (c .edition) f
+  fp = told (c .form .edition) f
 
   abbrev rp : List Page
-  rp = told (c .edition) r
+  rp = told (c .form .edition) r
 
   abbrev was : Page
-  was = page (c .edition) (taken-page (slots-in c) w)
+  was = page (c .form .edition) (taken-page (slots-in c) w)
 
-  not-open : is-open (state (c .edition) (taken-page (slots-in c) w)) ≡ false
-  not-open = fresh-not-open (c .edition) w (suc (suc (slots-in c)))
+  not-open : is-open (state (c .form .edition) (taken-page (slots-in c) w)) ≡ false
+  not-open = fresh-not-open (c .form .edition) w (suc (suc (slots-in c)))
 
-  not-used : used b (state (c .edition) (taken-page (slots-in c) w)) ≡ false
-  not-used = closed-not-used b (state (c .edition) (taken-page (slots-in c) w)) not-open
+  not-used : used b (state (c .form .edition) (taken-page (slots-in c) w)) ≡ false
+  not-used = closed-not-used b (state (c .form .edition) (taken-page (slots-in c) w)) not-open
 
   -- whatever is made of the page, the store keeps its journal as long as the page is not open
-  pub closed-keeps : (qg : List Word) → Whole c qg → is-open (state (c .edition) qg) ≡ false → Kept (f ++ qg ∷ r)
+  pub closed-keeps : (qg : List Word) → Whole c qg → is-open (state (c .form .edition) qg) ≡ false → Kept (f ++ qg ∷ r)
   closed-keeps qg q closed = keeps-fade c b (t .good .used-by) J f (taken-page (slots-in c) w) r h qg not-used (inr closed) q
 
   -- the page with its opening word, of whatever kind, and the turn to it
@@ -85,7 +89,7 @@ module _ (c : Frame) (J : List Setting) (f : Pages) (w : Word) (r : Pages) (t : 
       (λ v p.
       closed-keeps (begun v)
       (whole-word c (w ∷ []) blank-word v (replicate (suc (slots-in c)) blank-word) (whole-amid c f (taken-page (slots-in c) w) r (h .whole) .1) (p .light))
-      (unopened-not-open (c .edition) (begun v) (p .not-sound)))
+      (unopened-not-open (c .form .edition) (begun v) (p .not-sound)))
       new
 
   -- ---- the other pages
@@ -103,17 +107,17 @@ module _ (c : Frame) (J : List Setting) (f : Pages) (w : Word) (r : Pages) (t : 
   under-apart = under-append next (orders (used-pages b fp)) (orders (used-pages b rp)) (rw orders-apart at under)
 
   pub base-below : b < next
-  base-below = base-under b next (told (c .edition) pages-now) (rw (h .has-orders) under) (rw (h .has-orders) (t .good .some))
+  base-below = base-under b next (told (c .form .edition) pages-now) (rw (h .has-orders) under) (rw (h .has-orders) (t .good .some))
 
   pub base-apart : b ≡ max (base (states fp)) (base (states rp))
   unfolding page
   base-apart =
       let e = keeps-base c b (t .good .used-by) J f (taken-page (slots-in c) w) r h in
       let g = base-amid fp was rp in
-      let z = closed-order₂ (state (c .edition) (taken-page (slots-in c) w)) not-open in
+      let z = closed-order₂ (state (c .form .edition) (taken-page (slots-in c) w)) not-open in
       omega arith
 
-  journal-apart : J ≡ others (c .edition) b f r
+  journal-apart : J ≡ others (c .form .edition) b f r
   unfolding page
   journal-apart =
       sym (keeps-journal c b (t .good .used-by) J f (taken-page (slots-in c) w) r h)
@@ -124,10 +128,10 @@ module _ (c : Frame) (J : List Setting) (f : Pages) (w : Word) (r : Pages) (t : 
   abbrev qg : List Word
   qg = begun (opening-word 1 next)
 
-  opened : state (c .edition) qg ≡ open₁ next
-  opened = opened-plain (c .edition) w (t .worn) next (replicate (suc (slots-in c)) blank-word)
+  opened : state (c .form .edition) qg ≡ open₁ next
+  opened = opened-plain (c .form .edition) w (t .worn) next (replicate (suc (slots-in c)) blank-word)
 
-  opened-newest : Newest (c .edition) b f qg r
+  opened-newest : Newest (c .form .edition) b f qg r
   unfolding used order
   opened-newest =
       let l : b ≤ next = (let x = base-below in omega arith) in
@@ -144,15 +148,15 @@ module _ (c : Frame) (J : List Setting) (f : Pages) (w : Word) (r : Pages) (t : 
   opened-keeps : Keeps c b wider J (f ++ qg ∷ r)
   unfolding page orders order order₂ slots
   opened-keeps =
-      let q = page (c .edition) qg in
-      let z : order₂ (state (c .edition) qg) ≡ 0 = rw opened in
+      let q = page (c .form .edition) qg in
+      let z : order₂ (state (c .form .edition) qg) ≡ 0 = rw opened in
       let g = base-amid fp q rp in
       let a = base-apart in
       keeps-with c b (t .good .used-by) J f (taken-page (slots-in c) w) r h qg (begun-whole 1) (omega arith)
       (ap orders (used-amid b fp q rp (opened-newest .is-used)) ∙ orders-append (used-pages b fp) (q ∷ used-pages b rp) ∙ rw opened)
       (journal-amid b fp q rp (opened-newest .is-used) (opened-newest .before) (opened-newest .behind)
-      ∙ ap (λ (rs : List Setting). others (c .edition) b f r ++ rs) (blank-records (replicate (slots-in c) blank-word) (replicate-all-blank (slots-in c)))
-      ∙ append-nil (others (c .edition) b f r) ∙ sym journal-apart)
+      ∙ ap (λ (rs : List Setting). others (c .form .edition) b f r ++ rs) (blank-records (replicate (slots-in c) blank-word) (replicate-all-blank (slots-in c)))
+      ∙ append-nil (others (c .form .edition) b f r) ∙ sym journal-apart)
 
   opened-good : suc (length (t .good .used-by)) < c .pages → (G : Pages) → Keeps c b wider J G → Good c J G
   opened-good two G k =
@@ -178,7 +182,11 @@ module _ (c : Frame) (J : List Setting) (f : Pages) (w : Word) (r : Pages) (t : 
       let good : Good c J G = opened-good two G opened-keeps in
       let first = turns-through (turns-map (good-still c J pages-now (t .good) J (t .good .few))
       (opened-good two) (opening-turns 1 (Keeps c b wider J) opened-keeps)) in
-      let last = append-good c J a v ok G good f w (opening-word 1 next) blank-word []
-      (replicate (c .last-slot) blank-word) r refl opened-newest (replicate-all-blank (c .last-slot)) in
+      let O = opening-word 1 next in
+      let more = slots-in c - 1 in
+      let e = one-blank (slots-in c) (c .some) in
+      let last = append-good c J a v ok G good f w O blank-word [] (replicate more blank-word) r
+      (ap (λ (ws : List Word). f ++ (w ∷ O ∷ blank-word ∷ ws) ∷ r) e)
+      (subst (λ (ws : List Word). Newest (c .form .edition) b f (w ∷ O ∷ blank-word ∷ ws) r) e opened-newest) (replicate-all-blank more) in
       let ran = word-run (words-in c) f r (w ∷ []) (replicate (suc (slots-in c)) blank-word) (opening-word 1 next) in
       turns-after first (subst (Turning c (Good c J) (Good c (J ++ setting a v ∷ [])) (word-steps (length f) (slot-place 0) (record-word a v))) (sym ran) last)

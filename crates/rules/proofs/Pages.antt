@@ -1,18 +1,19 @@
 -- Laws of any page, of any length: what its header words make of it, and that a torn erase opens none. Assumes nothing.
-use Prim.Native.Nat.{ℕ, zero, suc, _+_, _-_, _*_, _%_, _≤_, _<_}
+use Prim.Native.Nat.{ℕ, zero, suc, _+_, _-_, _*_, _%_, _<_}
 use mathlib.Core.Path.{_≡_, refl, sym, ap, ap₂, _∙_, subst}
 use mathlib.Core.Logic.{_⊎_, inl, inr, ⊎-elim}
-use mathlib.Core.Bool.{Bool, true, false, cond, _&&_, true≢false}
-use mathlib.Core.List.{List, [], _∷_, _++_}
+use mathlib.Core.Bool.{Bool, true, false, cond}
+use mathlib.Core.List.{List, [], _∷_}
 use native.Mathlib.Omega.{arith}
 use lib.ListN.{length, getD, drop, replicate}
-use lib.Dec.{eqb}
-use borrow.Author.Tests.{eq-eqb, ne-eqb, eqb-true}
-use Rattle.rules.specs.Word.{Word, word, sound, blank, low16, low24, third, wear-word, number-word, opening-word, done-word}
-use Rattle.rules.specs.Page.{blank-word, wear-part, opening-part, done-part, slots, is-wear, wear-in, is-opening, order-in, is-done, all-blank, State, cleared, open₁, open₂, receiving, bad, state-after-wear, state-by, state, page}
+use borrow.Author.Tests.{eq-eqb, eqb-true}
+use Rattle.rules.specs.Word.{Word, sound, blank, low16, low24, third, wear-word, number-word, opening-word, done-word}
+use Rattle.rules.specs.Page.{blank-word, wear-part, opening-part, done-part, is-wear, wear-in, is-opening, order-in, is-done, all-blank}
+use Rattle.rules.specs.Page.{State, cleared, open₁, open₂, receiving, bad, state-after-wear, state-by, state}
 use Rattle.rules.specs.Store.{is-open}
 use Rattle.rules.proofs.Truth.{and-left, and-right, and-both, is-false, by-cases, not-both}
-use Rattle.rules.proofs.Words.{Light, light-sound, light-rises, blank-is, blank-light, blank-not-sound, wear-sound, wear-is, wear-edition, opening-sound, opening-order, opening-kind, number-is, number-sound}
+use Rattle.rules.proofs.Words.{Light, light-sound, light-rises, blank-is, blank-light, blank-not-sound, wear-sound, wear-is, wear-edition}
+use Rattle.rules.proofs.Words.{opening-sound, opening-order, opening-kind, number-is, number-sound}
 use Rattle.rules.proofs.Shape.{WordsRise, none, more}
 
 -- ---- the state, test by test
@@ -31,11 +32,13 @@ module _ (P : List Word) (n : ℕ) where
   unfolding state-after-wear
   plain h = rw h
 
-  received : is-opening 1 (opening-part P) ≡ false → is-opening 2 (opening-part P) ≡ true → is-done (order-in (opening-part P)) (done-part P) ≡ true → state-after-wear P n ≡ open₂ (order-in (opening-part P))
+  received : is-opening 1 (opening-part P) ≡ false → is-opening 2 (opening-part P) ≡ true → is-done (order-in (opening-part P)) (done-part P) ≡ true
+      → state-after-wear P n ≡ open₂ (order-in (opening-part P))
   unfolding state-after-wear
   received h₁ h₂ d = rw (h₁, h₂, d)
 
-  unfinished : is-opening 1 (opening-part P) ≡ false → is-opening 2 (opening-part P) ≡ true → is-done (order-in (opening-part P)) (done-part P) ≡ false → state-after-wear P n ≡ receiving
+  unfinished : is-opening 1 (opening-part P) ≡ false → is-opening 2 (opening-part P) ≡ true
+      → is-done (order-in (opening-part P)) (done-part P) ≡ false → state-after-wear P n ≡ receiving
   unfolding state-after-wear
   unfinished h₁ h₂ d = rw (h₁, h₂, d)
 
@@ -51,7 +54,8 @@ cleared-or-bad false n = refl
 -- what an open page has
 pub record IsOpen (edition : ℕ) (P : List Word) : Type 0 where
   pub wear : is-wear edition (wear-part P) ≡ true
-  pub opening : (is-opening 1 (opening-part P) ≡ true) ⊎ ((is-opening 1 (opening-part P) ≡ false) × (is-opening 2 (opening-part P) ≡ true) × (is-done (order-in (opening-part P)) (done-part P) ≡ true))
+  pub opening : (is-opening 1 (opening-part P) ≡ true) ⊎ ((is-opening 1 (opening-part P) ≡ false) × (is-opening 2 (opening-part P) ≡ true)
+      × (is-done (order-in (opening-part P)) (done-part P) ≡ true))
 
 pub open-has : (edition : ℕ) (P : List Word) → is-open (state edition P) ≡ true → IsOpen edition P
 unfolding is-open
@@ -68,7 +72,8 @@ open-has edition P h =
     (λ w. not-both h (rw (no-wear edition P w)))
 
 -- pages that have those words alike are in the same state
-pub open-like : (edition : ℕ) (P Q : List Word) → IsOpen edition P → wear-part P ≡ wear-part Q → opening-part P ≡ opening-part Q → (is-opening 1 (opening-part P) ≡ false → done-part P ≡ done-part Q) → state edition P ≡ state edition Q
+pub open-like : (edition : ℕ) (P Q : List Word) → IsOpen edition P → wear-part P ≡ wear-part Q → opening-part P ≡ opening-part Q
+    → (is-opening 1 (opening-part P) ≡ false → done-part P ≡ done-part Q) → state edition P ≡ state edition Q
 open-like edition P Q h w o d =
     let wq : is-wear edition (wear-part Q) ≡ true = rw w at (h .wear) in
     with-wear edition P (h .wear)
@@ -118,8 +123,13 @@ rise-fades edition {P} {Q} r l =
     (λ h.
     let q = open-has edition Q h in
     let w : wear-part P ≡ wear-part Q = rise-part r l 0 (and-left (sound (wear-part Q)) _ (q .wear)) in
-    let o : opening-part P ≡ opening-part Q = rise-part r l 1 (⊎-elim (λ (o₁ : is-opening 1 (opening-part Q) ≡ true). and-left (sound (opening-part Q)) _ o₁) (λ t. and-left (sound (opening-part Q)) _ (t .1)) (q .opening)) in
-    let d : is-opening 1 (opening-part Q) ≡ false → done-part Q ≡ done-part P = λ e. sym (rise-part r l 2 (⊎-elim (λ (o₁ : is-opening 1 (opening-part Q) ≡ true). not-both o₁ e) (λ t. and-left (sound (done-part Q)) _ (t .2)) (q .opening))) in
+    let o : opening-part P ≡ opening-part Q = rise-part r l 1
+    (⊎-elim (λ (o₁ : is-opening 1 (opening-part Q) ≡ true). and-left (sound (opening-part Q)) _ o₁)
+    (λ t. and-left (sound (opening-part Q)) _ (t .1)) (q .opening)) in
+    let d : is-opening 1 (opening-part Q) ≡ false
+    → done-part Q ≡ done-part P = λ e. sym
+    (rise-part r l 2 (⊎-elim (λ (o₁ : is-opening 1 (opening-part Q) ≡ true). not-both o₁ e) (λ t. and-left (sound (done-part Q)) _ (t .2))
+    (q .opening))) in
     inl (open-like edition Q P q (sym w) (sym o) d))
     (λ h. inr h)
 
@@ -145,7 +155,8 @@ undone-not-open edition P o s =
     (open-has edition P h .opening))
 
 -- the slots do not tell whether a page is open
-pub open-by-header : (edition : ℕ) (x y z : Word) (us vs : List Word) → is-open (state edition (x ∷ y ∷ z ∷ us)) ≡ true → state edition (x ∷ y ∷ z ∷ us) ≡ state edition (x ∷ y ∷ z ∷ vs)
+pub open-by-header : (edition : ℕ) (x y z : Word) (us vs : List Word) → is-open (state edition (x ∷ y ∷ z ∷ us)) ≡ true
+    → state edition (x ∷ y ∷ z ∷ us) ≡ state edition (x ∷ y ∷ z ∷ vs)
 unfolding wear-part opening-part done-part
 open-by-header edition x y z us vs h =
     open-like edition (x ∷ y ∷ z ∷ us) (x ∷ y ∷ z ∷ vs) (open-has edition (x ∷ y ∷ z ∷ us) h) refl refl (λ e. refl)
@@ -197,7 +208,8 @@ opening-is-opening kind o h = and-both (opening-sound kind o) (eq-eqb (low24 (op
 
 pub opening-not-plain : (o : ℕ) → is-opening 1 (opening-word 2 o) ≡ false
 unfolding is-opening
-opening-not-plain o = is-false _ (λ h. let e = eqb-true (low24 (opening-word 2 o) % 4) 1 (and-right (sound (opening-word 2 o)) _ h) in omega (arith, opening-kind 2 o (omega arith)))
+opening-not-plain o = is-false _
+    (λ h. let e = eqb-true (low24 (opening-word 2 o) % 4) 1 (and-right (sound (opening-word 2 o)) _ h) in omega (arith, opening-kind 2 o (omega arith)))
 
 pub done-is-done : (o : ℕ) → is-done o (done-word o) ≡ true
 unfolding is-done done-word
@@ -230,7 +242,8 @@ pub record IsCleared (edition : ℕ) (P : List Word) (n : ℕ) : Type 0 where
 never : {A : Type 0} {s t : State} → s ≡ t → (s ≡ t → _≡_ {A = ℕ} 0 1) → A
 never e f = absurd (let z = f e in omega arith)
 
-cleared-form : (edition : ℕ) (x : Word) (xs : List Word) (n : ℕ) → is-wear edition x ≡ true → cond (all-blank xs) (cleared (low16 x)) bad ≡ cleared n → IsCleared edition (x ∷ xs) n
+cleared-form : (edition : ℕ) (x : Word) (xs : List Word) (n : ℕ) → is-wear edition x ≡ true → cond (all-blank xs) (cleared (low16 x)) bad ≡ cleared n
+    → IsCleared edition (x ∷ xs) n
 cleared-form edition x xs n w h =
     by-cases (all-blank xs)
     (λ b.

@@ -33,50 +33,50 @@ Idle edition b picks i (pg ∷ F) = (picks i (state edition pg) ≡ true → use
 module _ (c : Frame) (b : ℕ) (os : List ℕ) (J : List Setting) where
   -- the words of a page behind the first
   abbrev k′ : ℕ
-  k′ = suc (suc (suc (c .last-slot)))
+  k′ = suc (suc (c .form .slot-count))
 
   abbrev Keeping : Pages → Type 0
   Keeping = Keeps c b os J
 
-  renew-through : (f : Pages) (pg : List Word) (r : Pages) (wear : ℕ) → used b (state (c .edition) pg) ≡ false → Keeping (f ++ pg ∷ r)
-      → Throughout c Keeping (renew (c .edition) (length f) wear) (f ++ pg ∷ r)
+  renew-through : (f : Pages) (pg : List Word) (r : Pages) (wear : ℕ) → used b (state (c .form .edition) pg) ≡ false → Keeping (f ++ pg ∷ r)
+      → Throughout c Keeping (renew (c .form .edition) (length f) wear) (f ++ pg ∷ r)
   unfolding renew target AllLight Fits
   renew-through f pg r wear u h =
       let w = whole-amid c f pg r (h .whole) .1 in
       let started : (v : Word) → Light v → Keeping (f ++ (v ∷ replicate k′ blank-word) ∷ r) =
-      λ v l. keeps-fade c b os J f pg r h (v ∷ replicate k′ blank-word) u (inr (fresh-not-open (c .edition) v k′))
+      λ v l. keeps-fade c b os J f pg r h (v ∷ replicate k′ blank-word) u (inr (fresh-not-open (c .form .edition) v k′))
       (ap suc (length-replicate k′ blank-word), λ may. (l, replicate-light k′)) in
       let rest = word-through (words-in c) f r [] (replicate k′ blank-word) (c .May) Keeping
-      (wear-word (c .edition) wear) (wear-sound (c .edition) wear) started in
+      (wear-word (c .form .edition) wear) (wear-sound (c .form .edition) wear) started in
       step (here-fits (words-in c) f pg r) h
       (λ may G x.
       let y = fails-amid (words-in c) f pg r (erase (length f)) G refl x in
       let rise = erase-fails (y .1) in
       let light = w .1 may in
       subst Keeping (sym (y .2))
-      (keeps-fade c b os J f pg r h (y .0) u (rise-fades (c .edition) rise light) (sym (rise-length rise) ∙ w .0, λ may. rise-light rise light)))
-      (subst (Throughout c Keeping _) (sym (erased (c .edition) k′ f pg r wear)) rest)
+      (keeps-fade c b os J f pg r h (y .0) u (rise-fades (c .form .edition) rise light) (sym (rise-length rise) ∙ w .0, λ may. rise-light rise light)))
+      (subst (Throughout c Keeping _) (sym (erased (c .form .edition) k′ f pg r wear)) rest)
 
   module _ (picks : ℕ → State → Bool) where
     onward-through : (f : Pages) (qg : List Word) (F : Pages)
-        → Throughout c Keeping (rest-steps (c .edition) k′ picks (length (f ++ qg ∷ [])) F) ((f ++ qg ∷ []) ++ F)
-        → Throughout c Keeping (rest-steps (c .edition) k′ picks (suc (length f)) F) (f ++ qg ∷ F)
+        → Throughout c Keeping (rest-steps (c .form .edition) k′ picks (length (f ++ qg ∷ [])) F) ((f ++ qg ∷ []) ++ F)
+        → Throughout c Keeping (rest-steps (c .form .edition) k′ picks (suc (length f)) F) (f ++ qg ∷ F)
     onward-through f qg F h = rw (next-length f qg, append-snoc f qg F) at h
 
-    pub renewals-through : (f F : Pages) → Idle (c .edition) b picks (length f) F → Keeping (f ++ F)
-        → Throughout c Keeping (renewals (c .edition) picks (length f) (told (c .edition) F)) (f ++ F)
+    pub renewals-through : (f F : Pages) → Idle (c .form .edition) b picks (length f) F → Keeping (f ++ F)
+        → Throughout c Keeping (renewals (c .form .edition) picks (length f) (told (c .form .edition) F)) (f ++ F)
     unfolding renewals add-steps page Idle
     renewals-through f [] i h = end h
     renewals-through f (pg ∷ F) i h =
-        by-cases (picks (length f) (state (c .edition) pg))
+        by-cases (picks (length f) (state (c .form .edition) pg))
         (λ t.
-        let w = renewed-wear (wear-in (c .edition) pg) in
-        let qg = fresh (c .edition) k′ w in
+        let w = renewed-wear (wear-in (c .form .edition) pg) in
+        let qg = fresh (c .form .edition) k′ w in
         let first = renew-through f pg F w (i .0 t) h in
-        let done = renew-run (c .edition) k′ f pg F w in
+        let done = renew-run (c .form .edition) k′ f pg F w in
         let kept : Keeping ((f ++ qg ∷ []) ++ F) = rw append-snoc (subst Keeping done (through-end first)) in
         let rest = renewals-through (f ++ qg ∷ []) F (rw (next-length f qg) (i .1)) kept in
-        rw t (through-append (rest-steps (c .edition) k′ picks (suc (length f)) F) first
+        rw t (through-append (rest-steps (c .form .edition) k′ picks (suc (length f)) F) first
         (subst (Throughout c Keeping _) (sym done) (onward-through f qg F rest))))
         (λ t.
         let rest = renewals-through (f ++ pg ∷ []) F (rw (next-length f pg) (i .1)) (rw append-snoc h) in
@@ -106,19 +106,24 @@ module _ (edition k′ b : ℕ) where
 
 module _ (c : Frame) (J : List Setting) (F : Pages) (g : Good c J F) where
   -- no page that a recovery renews is used
-  keeping : Throughout c (Keeps c (g .base-order) (g .used-by) J) (recovery-steps (c .edition) (told (c .edition) F)) F
+  keeping : Throughout c (Keeps c (g .base-order) (g .used-by) J) (recovery-steps (c .form .edition) (told (c .form .edition) F)) F
   unfolding recovery-steps unclean
   keeping =
       renewals-through c (g .base-order) (g .used-by) J _ [] F
-      (idle-all (c .edition) (g .base-order) _ (λ i s t. rw (← g .keeps .is-base) (or-false-left (used _ s) (is-cleared s) (not-true _ t))) 0 F) (g .keeps)
+      (idle-all (c .form .edition) (g .base-order) _ (λ i s t. rw (← g .keeps .is-base) (or-false-left (used _ s) (is-cleared s) (not-true _ t))) 0 F)
+      (g .keeps)
 
-  pub recovery-through : Throughout c (Good c J) (recovery-steps (c .edition) (told (c .edition) F)) F
+  pub recovery-through : Throughout c (Good c J) (recovery-steps (c .form .edition) (told (c .form .edition) F)) F
   recovery-through = through-map (good-still c J F g J (g .few)) keeping
 
-  pub recovered-clean : let G = told (c .edition) (store-run (words-in c) (recovery-steps (c .edition) (told (c .edition) F)) F) in
+  pub recovered-clean : let G = told (c .form .edition) (store-run (words-in c) (recovery-steps (c .form .edition) (told (c .form .edition) F)) F) in
       count (unclean (base (states G))) (states G) ≡ 0
   unfolding recovery-steps
   recovered-clean =
-      let k′ = suc (suc (suc (c .last-slot))) in
-      let b = base (states (told (c .edition) F)) in
-      rw (through-end keeping .is-base ∙ sym (g .keeps .is-base), renewals-run (c .edition) k′ (λ i s. unclean b s) [] F) (renewed-clean (c .edition) k′ b 0 F)
+      let k′ = suc (suc (c .form .slot-count)) in
+      let b = base (states (told (c .form .edition) F)) in
+      rw (
+        through-end keeping .is-base
+            ∙ sym (g .keeps .is-base),
+        renewals-run (c .form .edition) k′ (λ i s. unclean b s) [] F,
+      ) (renewed-clean (c .form .edition) k′ b 0 F)

@@ -1,12 +1,15 @@
 -- The order of the tests: a call answers OK exactly if every test of its table fails. Assumes nothing.
 use Prim.Native.Nat.{ℕ, zero, suc}
 use mathlib.Core.Path.{_≡_, refl}
-use mathlib.Core.Bool.{Bool, true, false, cond, not, true≢false}
+use mathlib.Core.Bool.{true, false, cond, not, true≢false}
 use mathlib.Core.List.{List, [], _∷_, _++_}
 use native.Mathlib.Omega.{arith}
+use Rattle.rules.specs.Page.{Form}
 use Rattle.rules.specs.Store.{states, value}
 use Rattle.rules.specs.Steps.{is-value}
-use Rattle.rules.specs.Call.{Row, row, first-of, then, pages, wrong-size, no-store, damaged, is-unclean, wrong-address, is-held, no-room, order-end, store-rows, store-number, blank-read-rows, blank-read-number, read-rows, read-number, write-rows, write-number, OK, UNCLEAN, ADDRESS, NO-ROOM, ORDER-END, NOT-HELD}
+use Rattle.rules.specs.Call.{Row, row, first-of, then, pages, wrong-size, no-store, damaged, is-unclean, wrong-address, is-held, no-room}
+use Rattle.rules.specs.Call.{order-end, store-rows, store-number, blank-read-rows, blank-read-number, read-rows, read-number, write-rows}
+use Rattle.rules.specs.Call.{write-number, OK, UNCLEAN, ADDRESS, NO-ROOM, ORDER-END, NOT-HELD}
 
 -- every test fails, up to a row of OK whose test holds
 unfoldable pub AllFail : List Row → Type 0
@@ -44,53 +47,53 @@ goes-on (row (suc n) false ∷ rows) more h = goes-on rows more h
 
 -- ---- what each call's OK tells
 
-module _ (i : List ℕ) where
-  pub store-fails : store-number i ≡ OK → (wrong-size i ≡ false) × (no-store (pages i) ≡ false) × (damaged (pages i) ≡ false)
+module _ (fm : Form) (i : List ℕ) where
+  pub store-fails : store-number fm i ≡ OK → (wrong-size fm i ≡ false) × (no-store (pages fm i) ≡ false) × (damaged (pages fm i) ≡ false)
   unfolding store-number store-rows AllFail
-  store-fails ok = let h = all-fail (store-rows i) ok in (h .0, h .1 .0, h .1 .1 .0)
+  store-fails ok = let h = all-fail (store-rows fm i) ok in (h .0, h .1 .0, h .1 .1 .0)
 
-  pub store-passes : wrong-size i ≡ false → no-store (pages i) ≡ false → damaged (pages i) ≡ false → store-number i ≡ OK
+  pub store-passes : wrong-size fm i ≡ false → no-store (pages fm i) ≡ false → damaged (pages fm i) ≡ false → store-number fm i ≡ OK
   unfolding store-number store-rows AllFail
-  store-passes s n d = none-given (store-rows i) (s, (n, (d, tt)))
+  store-passes s n d = none-given (store-rows fm i) (s, (n, (d, tt)))
 
-  store-refuses : Refusing (store-rows i)
+  store-refuses : Refusing (store-rows fm i)
   unfolding store-rows Refusing
   store-refuses = tt
 
-  pub blank-read-goes-on : (a : ℕ) → blank-read-number a i ≡ then (store-number i) (cond (wrong-address a) ADDRESS OK)
+  pub blank-read-goes-on : (a : ℕ) → blank-read-number fm a i ≡ then (store-number fm i) (cond (wrong-address a) ADDRESS OK)
   unfolding blank-read-number blank-read-rows store-number first-of
-  blank-read-goes-on a = goes-on (store-rows i) (row ADDRESS (wrong-address a) ∷ []) store-refuses
+  blank-read-goes-on a = goes-on (store-rows fm i) (row ADDRESS (wrong-address a) ∷ []) store-refuses
 
-  pub read-goes-on : (a : ℕ) → read-number a i ≡ then (blank-read-number a i) (cond (not (is-held (value a (pages i)))) NOT-HELD OK)
+  pub read-goes-on : (a : ℕ) → read-number fm a i ≡ then (blank-read-number fm a i) (cond (not (is-held (value a (pages fm i)))) NOT-HELD OK)
   unfolding read-number read-rows blank-read-number blank-read-rows store-rows first-of Refusing
-  read-goes-on a = goes-on (blank-read-rows a i) (row NOT-HELD (not (is-held (value a (pages i)))) ∷ []) tt
+  read-goes-on a = goes-on (blank-read-rows fm a i) (row NOT-HELD (not (is-held (value a (pages fm i)))) ∷ []) tt
 
   -- the tests of a write behind those of the store
   abbrev pub write-more : (a v : ℕ) → List Row
   write-more a v =
-      row UNCLEAN (is-unclean (states (pages i)))
+      row UNCLEAN (is-unclean (states (pages fm i)))
       ∷ row ADDRESS (wrong-address a)
-      ∷ row OK (is-value (value a (pages i)) v)
-      ∷ row NO-ROOM (no-room a (pages i))
-      ∷ row ORDER-END (order-end (pages i))
+      ∷ row OK (is-value (value a (pages fm i)) v)
+      ∷ row NO-ROOM (no-room a (pages fm i))
+      ∷ row ORDER-END (order-end (pages fm i))
       ∷ []
 
-  pub write-goes-on : (a v : ℕ) → write-number a v i ≡ then (store-number i) (first-of (write-more a v))
+  pub write-goes-on : (a v : ℕ) → write-number fm a v i ≡ then (store-number fm i) (first-of (write-more a v))
   unfolding write-number write-rows store-number
-  write-goes-on a v = goes-on (store-rows i) (write-more a v) store-refuses
+  write-goes-on a v = goes-on (store-rows fm i) (write-more a v) store-refuses
 
   -- an accepted write passed each test
   pub record WriteFails (a v : ℕ) : Type 0 where
-    pub stored : store-number i ≡ OK
-    pub clean : is-unclean (states (pages i)) ≡ false
+    pub stored : store-number fm i ≡ OK
+    pub clean : is-unclean (states (pages fm i)) ≡ false
     pub address : wrong-address a ≡ false
-    pub room : is-value (value a (pages i)) v ≡ false → no-room a (pages i) ≡ false
-    pub order : is-value (value a (pages i)) v ≡ false → order-end (pages i) ≡ false
+    pub room : is-value (value a (pages fm i)) v ≡ false → no-room a (pages fm i) ≡ false
+    pub order : is-value (value a (pages fm i)) v ≡ false → order-end (pages fm i) ≡ false
 
-  pub write-fails : (a v : ℕ) → write-number a v i ≡ OK → WriteFails a v
+  pub write-fails : (a v : ℕ) → write-number fm a v i ≡ OK → WriteFails a v
   unfolding write-number write-rows store-rows AllFail
   write-fails a v ok =
-      let h = all-fail (write-rows a v i) ok in
+      let h = all-fail (write-rows fm a v i) ok in
       let more = h .1 .1 .1 in
       record {
         stored = store-passes (h .0) (h .1 .0) (h .1 .1 .0);

@@ -1,11 +1,10 @@
 -- Laws of slots: the free slot, and which records count. Assumes nothing.
-use Prim.Native.Nat.{ℕ, zero, suc, _+_, _≤_, _<_}
-use mathlib.Core.Path.{_≡_, refl, sym, ap, _∙_, subst}
-use mathlib.Core.Bool.{Bool, true, false, cond, _&&_}
-use mathlib.Core.List.{List, [], _∷_, _++_, map}
-use native.Mathlib.Nat.{le-of-suc-le-suc}
+use Prim.Native.Nat.{ℕ, zero, suc, _+_, _<_}
+use mathlib.Core.Path.{_≡_, refl, sym, ap, _∙_}
+use mathlib.Core.Bool.{true, false}
+use mathlib.Core.List.{List, [], _∷_, _++_}
 use native.Mathlib.Omega.{arith}
-use lib.ListN.{length, replicate}
+use lib.ListN.{length}
 use lib.Dec.{eqb}
 use borrow.Author.Tests.{eqb-true, eqb-false, eq-eqb, ne-eqb}
 use Rattle.rules.specs.Word.{Word, sound, blank, Condition, Sound, Blank, Spoiled, condition, low16, record-word, slot-condition}
@@ -49,7 +48,8 @@ free-here w ws e b z =
     record { front = []; rest = ws; form = ap (λ (v : Word). v ∷ ws) (blank-is w b); place = sym e; behind = free-none ws z }
 
 -- how far past the first slot the free one is
-free-cases : {A : Type 0} (w : Word) (ws : List Word) → (free-slot (w ∷ ws) ≡ 0 → blank w ≡ true → free-slot ws ≡ 0 → A) → (free-slot (w ∷ ws) ≡ suc (free-slot ws) → A) → A
+free-cases : {A : Type 0} (w : Word) (ws : List Word) → (free-slot (w ∷ ws) ≡ 0 → blank w ≡ true → free-slot ws ≡ 0 → A)
+    → (free-slot (w ∷ ws) ≡ suc (free-slot ws) → A) → A
 unfolding free-slot past
 free-cases w ws here later =
     by-cases (blank w) (λ b. by-cases (eqb (free-slot ws) 0) (λ z. let e = eqb-true (free-slot ws) 0 z in here (rw (b, e)) b e)

@@ -1,15 +1,17 @@
 -- Laws of stores, of any number of pages: which pages are used, and the journal, when one page changes. Assumes nothing.
-use Prim.Native.Nat.{ℕ, zero, suc, _+_, _-_, _≤_, _<_, max}
-use mathlib.Core.Path.{_≡_, refl, sym, ap, ap₂, _∙_, subst}
+use Prim.Native.Nat.{ℕ, suc, _+_, _-_, _≤_, _<_, max}
+use mathlib.Core.Path.{_≡_, refl, sym, ap, _∙_, subst}
 use mathlib.Core.Logic.{_⊎_, inl, inr, ⊎-elim}
-use mathlib.Core.Bool.{Bool, true, false, cond, not, _&&_, _||_}
+use mathlib.Core.Bool.{Bool, true, false, cond, not, _||_}
 use mathlib.Core.List.{List, [], _∷_, _++_, append-nil, append-assoc}
 use native.Mathlib.Omega.{arith}
-use lib.ListN.{length, length-append}
+use lib.ListN.{length}
 use lib.Dec.{eqb, leb}
 use borrow.Author.Tests.{le-leb, lt-leb, leb-true, leb-false, eqb-true, eqb-false, eq-eqb, ne-eqb}
 use Rattle.rules.specs.Page.{State, cleared, open₁, open₂, receiving, bad, Page}
-use Rattle.rules.specs.Store.{states, order₂, base, used, is-cleared, is-open, order, add-order, used-orders, greatest, is-active, index-of, add-page, used-pages, insert, oldest-first, Setting, records, all-records, slots-at, journal, count, Candidate, nobody, page, better, offered, least-worn}
+use Rattle.rules.specs.Store.{states, order₂, base, used, is-cleared, is-open, order, add-order, used-orders, greatest, is-active, index-of}
+use Rattle.rules.specs.Store.{add-page, used-pages, insert, oldest-first, Setting, records, all-records, slots-at, count, Candidate}
+use Rattle.rules.specs.Store.{nobody, page, better, offered, least-worn}
 use Rattle.rules.specs.Steps.{unclean}
 use Rattle.rules.specs.Call.{among, repeats}
 use Rattle.rules.proofs.Truth.{is-false, by-cases, not-both, or-first, or-second, or-false-left, or-false-right}
@@ -137,13 +139,16 @@ unfolding Below oldest-first
 below-oldest m [] h = tt
 below-oldest m (p ∷ ps) h = below-insert m p (oldest-first ps) (h .0) (below-oldest m ps (h .1))
 
-pub greatest-last : (q : Page) (xs ys : List Page) → Below (order (q .state)) xs → Below (order (q .state)) ys → oldest-first (xs ++ q ∷ ys) ≡ oldest-first (xs ++ ys) ++ q ∷ []
+pub greatest-last : (q : Page) (xs ys : List Page) → Below (order (q .state)) xs → Below (order (q .state)) ys
+    → oldest-first (xs ++ q ∷ ys) ≡ oldest-first (xs ++ ys) ++ q ∷ []
 unfolding Below oldest-first
 greatest-last q [] ys h t = insert-last q (oldest-first ys) (below-oldest (order (q .state)) ys t)
 greatest-last q (x ∷ xs) ys h t = rw (greatest-last q xs ys (h .1) t) (insert-before x q (oldest-first (xs ++ ys)) (h .0))
 
 -- the journal of a store ends with the records of its page of greatest order
-pub journal-amid : (b : ℕ) (f : List Page) (p : Page) (r : List Page) → used b (p .state) ≡ true → Below (order (p .state)) (used-pages b f) → Below (order (p .state)) (used-pages b r) → all-records (oldest-first (used-pages b (f ++ p ∷ r))) ≡ all-records (oldest-first (used-pages b f ++ used-pages b r)) ++ records (p .slots)
+pub journal-amid : (b : ℕ) (f : List Page) (p : Page) (r : List Page) → used b (p .state) ≡ true → Below (order (p .state)) (used-pages b f)
+    → Below (order (p .state)) (used-pages b r)
+    → all-records (oldest-first (used-pages b (f ++ p ∷ r))) ≡ all-records (oldest-first (used-pages b f ++ used-pages b r)) ++ records (p .slots)
 unfolding used-pages add-page all-records
 journal-amid b f p r u h t =
     ap (λ (ps : List Page). all-records (oldest-first ps)) (used-pages-append b f (p ∷ r) ∙ rw u)
@@ -310,7 +315,8 @@ pub record ActiveAt (b m : ℕ) (ps : List Page) : Type 0 where
   pub before : Below m (used-pages b front)
   pub behind : Below m (used-pages b rest)
 
-below-used : (b m : ℕ) (p : Page) (ps : List Page) → used b (p .state) ≡ true → order (p .state) < m → Below m (used-pages b ps) → Below m (used-pages b (p ∷ ps))
+below-used : (b m : ℕ) (p : Page) (ps : List Page) → used b (p .state) ≡ true → order (p .state) < m → Below m (used-pages b ps)
+    → Below m (used-pages b (p ∷ ps))
 unfolding used-pages add-page Below
 below-used b m p ps u l h = rw u (l, h)
 
@@ -318,7 +324,8 @@ below-unused : (b m : ℕ) (p : Page) (ps : List Page) → used b (p .state) ≡
 unfolding used-pages add-page
 below-unused b m p ps u h = rw u h
 
-further : (b m : ℕ) (p : Page) (ps : List Page) → is-active b m (p .state) ≡ false → (a : ActiveAt b m ps) → Below m (used-pages b (p ∷ a .front)) → ActiveAt b m (p ∷ ps)
+further : (b m : ℕ) (p : Page) (ps : List Page) → is-active b m (p .state) ≡ false → (a : ActiveAt b m ps) → Below m (used-pages b (p ∷ a .front))
+    → ActiveAt b m (p ∷ ps)
 unfolding index-of states
 further b m p ps na a bf =
     record {
@@ -333,7 +340,8 @@ further b m p ps na a bf =
       behind = a .behind;
     }
 
-pub active-at : (b m : ℕ) (ps : List Page) → UpTo m (orders (used-pages b ps)) → among m (orders (used-pages b ps)) ≡ true → repeats (orders (used-pages b ps)) ≡ false → ActiveAt b m ps
+pub active-at : (b m : ℕ) (ps : List Page) → UpTo m (orders (used-pages b ps)) → among m (orders (used-pages b ps)) ≡ true
+    → repeats (orders (used-pages b ps)) ≡ false → ActiveAt b m ps
 unfolding used-pages add-page orders among repeats UpTo Below is-active index-of states
 active-at b m [] h t d = not-both t refl
 active-at b m (p ∷ ps) h t d =
@@ -362,7 +370,8 @@ active-at b m (p ∷ ps) h t d =
     let ne : order (p .state) ≡ m → ⊥ = eqb-false (order (p .state)) m e in
     let l : order (p .state) ≤ m = h′ .0 in
     let lt : order (p .state) < m = lt-of m (order (p .state)) l ne in
-    let there : among m (orders (used-pages b ps)) ≡ true = or-rest (eqb m (order (p .state))) (among m (orders (used-pages b ps))) (ne-eqb m (order (p .state)) (λ q. ne (sym q))) t′ in
+    let there : among m (orders (used-pages b ps)) ≡ true = or-rest (eqb m (order (p .state))) (among m (orders (used-pages b ps)))
+    (ne-eqb m (order (p .state)) (λ q. ne (sym q))) t′ in
     let a = active-at b m ps (h′ .1) there others in
     further b m p ps (rw (u, e)) a (below-used b m p (a .front) u lt (a .before))))
     (λ u.
@@ -400,17 +409,21 @@ none-taken : (k : ℕ) (ss : List State) → count is-cleared ss ≡ 0 → least
 unfolding count least-worn better is-cleared
 none-taken k [] h = refl
 none-taken k (s ∷ ss) h =
-    ⊎-elim (λ (c : (n : ℕ) × (s ≡ cleared n)). absurd (let e = subst (λ (t : State). cond (is-cleared t) 1 0 + count is-cleared ss ≡ 0) (c .1) h in omega arith))
+    ⊎-elim (λ (c : (n : ℕ)
+    × (s ≡ cleared n)). absurd (let e = subst (λ (t : State). cond (is-cleared t) 1 0 + count is-cleared ss ≡ 0) (c .1) h in omega arith))
     (λ c. let e = subst (λ (t : Bool). cond t 1 0 + count is-cleared ss ≡ 0) (c .0) h in rw (c .1 k) (none-taken (suc k) ss (omega arith)))
     (cleared-or-not s)
 
-taken-here : (k : ℕ) (p : Page) (ps : List Page) (n : ℕ) → p .state ≡ cleared n → better (Candidate.page k n) (least-worn (suc k) (states ps)) ≡ Candidate.page k n → TakenAt k (p ∷ ps)
+taken-here : (k : ℕ) (p : Page) (ps : List Page) (n : ℕ) → p .state ≡ cleared n
+    → better (Candidate.page k n) (least-worn (suc k) (states ps)) ≡ Candidate.page k n → TakenAt k (p ∷ ps)
 unfolding least-worn states offered
 taken-here k p ps n e b =
     let z : k ≡ k + 0 = omega arith in
     record { front = []; page = p; rest = ps; wear = n; form = refl; place = rw e (b ∙ ap (λ (j : ℕ). Candidate.page j n) z); is-cleared = e }
 
-taken-later : (k : ℕ) (p : Page) (ps : List Page) (t : TakenAt (suc k) ps) → better (offered k (p .state)) (Candidate.page (suc k + length (t .front)) (t .wear)) ≡ Candidate.page (suc k + length (t .front)) (t .wear) → TakenAt k (p ∷ ps)
+taken-later : (k : ℕ) (p : Page) (ps : List Page) (t : TakenAt (suc k) ps)
+    → better (offered k (p .state)) (Candidate.page (suc k + length (t .front)) (t .wear)) ≡ Candidate.page (suc k + length (t .front)) (t .wear)
+    → TakenAt k (p ∷ ps)
 unfolding least-worn states
 taken-later k p ps t b =
     let z : suc k + length (t .front) ≡ k + suc (length (t .front)) = omega arith in
@@ -448,7 +461,8 @@ taken-at k (p ∷ ps) h =
 pub count-all : (b : ℕ) (ss : List State) → count (used b) ss + count is-cleared ss + count (unclean b) ss ≡ length ss
 unfolding count unclean used is-cleared
 count-all b [] = refl
-count-all b (s ∷ ss) = let rest = count-all b ss in count-one (used b s) (is-cleared s) (λ u c. used-not-cleared b s u c) (count (used b) ss) (count is-cleared ss) (count (unclean b) ss) (length ss) rest
+count-all b (s ∷ ss) = let rest = count-all b ss in count-one (used b s) (is-cleared s) (λ u c. used-not-cleared b s u c) (count (used b) ss)
+    (count is-cleared ss) (count (unclean b) ss) (length ss) rest
   where
     used-not-cleared : (b : ℕ) (s : State) → used b s ≡ true → is-cleared s ≡ true → ⊥
     used-not-cleared b (cleared n) u c = not-both u refl
@@ -457,7 +471,8 @@ count-all b (s ∷ ss) = let rest = count-all b ss in count-one (used b s) (is-c
     used-not-cleared b receiving u c = not-both c refl
     used-not-cleared b bad u c = not-both c refl
 
-    count-one : (x y : Bool) → (x ≡ true → y ≡ true → ⊥) → (p q r l : ℕ) → p + q + r ≡ l → cond x 1 0 + p + (cond y 1 0 + q) + (cond (not (x || y)) 1 0 + r) ≡ suc l
+    count-one : (x y : Bool) → (x ≡ true → y ≡ true → ⊥) → (p q r l : ℕ) → p + q + r ≡ l
+        → cond x 1 0 + p + (cond y 1 0 + q) + (cond (not (x || y)) 1 0 + r) ≡ suc l
     count-one true true d p q r l e = absurd (d refl refl)
     count-one true false d p q r l e = omega arith
     count-one false true d p q r l e = omega arith

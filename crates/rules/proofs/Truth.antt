@@ -1,8 +1,6 @@
 -- What a Bool test tells of its parts. Assumes nothing.
 use mathlib.Core.Path.{_≡_, refl}
-use Prim.Native.Nat.{ℕ, suc}
-use native.Mathlib.Omega.{arith}
-use mathlib.Core.Bool.{Bool, true, false, cond, not, _&&_, _||_, true≢false}
+use mathlib.Core.Bool.{Bool, true, false, _&&_, _||_, true≢false}
 
 pub and-left : (a b : Bool) → (a && b) ≡ true → a ≡ true
 and-left true b h = refl
@@ -42,8 +40,3 @@ or-false-left false b h = refl
 pub or-false-right : (a b : Bool) → (a || b) ≡ false → b ≡ false
 or-false-right true b h = not-both refl h
 or-false-right false b h = h
-
--- a test that gives a number other than 0 has failed, if the number is 0
-pub failed : (t : Bool) (n rest : ℕ) → cond t (suc n) rest ≡ 0 → (t ≡ false) × (rest ≡ 0)
-failed true n rest h = absurd (let e : suc n ≡ 0 = h in omega arith)
-failed false n rest h = (refl, h)

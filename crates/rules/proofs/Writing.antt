@@ -28,7 +28,7 @@ use Rattle.rules.proofs.Moving.{move-turns}
 -- what makes a write acceptable: the table's rows 4 to 6
 pub record Accepted (c : Frame) (a v : ℕ) (t : ℕ → Option ℕ) (F : Pages) : Type 0 where
   pub has : Has c t F
-  pub clean : count (unclean (has .good .base-order)) (states (told (c .edition) F)) ≡ 0
+  pub clean : count (unclean (has .good .base-order)) (states (told (c .form .edition) F)) ≡ 0
   pub address : a ≡ 65535 → ⊥
   pub room : is-value (t a) v ≡ false → t a ≡ none → length (put-all [] (has .journal)) < c .limit
 
@@ -50,7 +50,7 @@ module _ (a v : ℕ) (t : ℕ → Option ℕ) (J : List Setting) (is : (x : ℕ)
 module _ (c : Frame) (a v : ℕ) (t : ℕ → Option ℕ) where
   -- the steps of a way turn the store from the old values to the new
   abbrev Goes : (List Page → Way) → Pages → Type 0
-  Goes which F = let ps = told (c .edition) F in Turning c (Has c t) (Has c (changed a v t)) (way-steps (c .edition) a v ps (which ps)) F
+  Goes which F = let ps = told (c .form .edition) F in Turning c (Has c t) (Has c (changed a v t)) (way-steps (c .form .edition) a v ps (which ps)) F
 
   module _ (F : Pages) (h : Accepted c a v t F) (fresh : is-value (t a) v ≡ false) where
     abbrev J : List Setting
@@ -66,24 +66,24 @@ module _ (c : Frame) (a v : ℕ) (t : ℕ → Option ℕ) where
     new G g = record { journal = J ++ setting a v ∷ []; good = g; values = gained a v t J (h .has .values) }
 
     -- as many pages are cleared as are not used
-    cleared-there : length (h .has .good .used-by) + count is-cleared (states (told (c .edition) F)) ≡ c .pages
+    cleared-there : length (h .has .good .used-by) + count is-cleared (states (told (c .form .edition) F)) ≡ c .pages
     cleared-there =
         let g = h .has .good in
-        some-cleared (c .edition) (words-in c) (g .base-order) (c .pages) (g .used-by) F (good-ordered c J F g) (g .keeps .count) (h .clean)
+        some-cleared (c .form .edition) (words-in c) (g .base-order) (c .pages) (g .used-by) F (good-ordered c J F g) (g .keeps .count) (h .clean)
 
-    appends : has-free-slot (told (c .edition) F) ≡ true → Goes (λ ps. append-to (active-index (states ps)) (free-slot (active-slots ps))) F
+    appends : has-free-slot (told (c .form .edition) F) ≡ true → Goes (λ ps. append-to (active-index (states ps)) (free-slot (active-slots ps))) F
     unfolding way-steps
     appends free = turns-map old new (append-case c J a v writable F (h .has .good) free)
 
-    some-taken : Takes (c .edition) (slots-in c) F
+    some-taken : Takes (c .form .edition) (slots-in c) F
     some-taken =
         let all = cleared-there in
         let sp = h .has .good .spare in
-        takes (c .edition) (slots-in c) F (good-ordered c J F (h .has .good) .long) (λ z. omega arith)
+        takes (c .form .edition) (slots-in c) F (good-ordered c J F (h .has .good) .long) (λ z. omega arith)
 
   -- the page that is taken stands between the others
   module _ (f : Pages) (w : Word) (r : Pages) (h : Accepted c a v t (f ++ taken-page (slots-in c) w ∷ r)) (fresh : is-value (t a) v ≡ false)
-      (worn : is-wear (c .edition) w ≡ true) (place : taken (told (c .edition) (f ++ taken-page (slots-in c) w ∷ r)) ≡ length f) where
+      (worn : is-wear (c .form .edition) w ≡ true) (place : taken (told (c .form .edition) (f ++ taken-page (slots-in c) w ∷ r)) ≡ length f) where
     abbrev F : Pages
     F = f ++ taken-page (slots-in c) w ∷ r
 
@@ -93,11 +93,11 @@ module _ (c : Frame) (a v : ℕ) (t : ℕ → Option ℕ) where
     abbrev taking : Taking c K f w r
     taking = record { worn = worn; good = h .has .good }
 
-    opens : leb 2 (count is-cleared (states (told (c .edition) F))) ≡ true → Goes (λ ps. open-at (taken ps) (next-order ps)) F
+    opens : leb 2 (count is-cleared (states (told (c .form .edition) F))) ≡ true → Goes (λ ps. open-at (taken ps) (next-order ps)) F
     unfolding way-steps
     opens two =
         let all = cleared-there F h fresh in
-        let l = leb-true 2 (count is-cleared (states (told (c .edition) F))) two in
+        let l = leb-true 2 (count is-cleared (states (told (c .form .edition) F))) two in
         rw place (turns-map (old F h fresh) (new F h fresh) (open-case c K f w r taking a v (writable F h fresh) (omega arith)))
 
     abbrev copied : List Setting
@@ -130,7 +130,8 @@ module _ (c : Frame) (a v : ℕ) (t : ℕ → Option ℕ) where
         (move-turns c K f w r taking copied copied-lawful (omega arith)))
 
   -- an accepted write
-  pub write-turns : (F : Pages) → Accepted c a v t F → Turning c (Has c t) (Has c (changed a v t)) (write-steps (c .edition) a v (told (c .edition) F)) F
+  pub write-turns : (F : Pages) → Accepted c a v t F
+      → Turning c (Has c t) (Has c (changed a v t)) (write-steps (c .form .edition) a v (told (c .form .edition) F)) F
   unfolding write-steps way way-steps new-page value
   write-turns F h =
       let J = h .has .journal in
@@ -141,15 +142,15 @@ module _ (c : Frame) (a v : ℕ) (t : ℕ → Option ℕ) where
       (λ s.
       let k = some-taken F h s in
       let h′ = subst (Accepted c a v t) (k .form) h in
-      let p′ = subst (λ (G : Pages). taken (told (c .edition) G) ≡ length (k .front)) (k .form) (k .place) in
+      let p′ = subst (λ (G : Pages). taken (told (c .form .edition) G) ≡ length (k .front)) (k .form) (k .place) in
       rw s
-      (by-cases (has-free-slot (told (c .edition) F)) (λ p. rw p (appends F h s p))
+      (by-cases (has-free-slot (told (c .form .edition) F)) (λ p. rw p (appends F h s p))
       (λ p.
       rw p
-      (by-cases (leb 2 (count is-cleared (states (told (c .edition) F))))
+      (by-cases (leb 2 (count is-cleared (states (told (c .form .edition) F))))
       (λ q.
       rw q
       (subst⁻¹ (Goes (λ ps. open-at (taken ps) (next-order ps))) (k .form)
       (opens (k .front) (k .first) (k .rest) h′ s (k .worn) p′
-      (subst (λ (G : Pages). leb 2 (count is-cleared (states (told (c .edition) G))) ≡ true) (k .form) q))))
+      (subst (λ (G : Pages). leb 2 (count is-cleared (states (told (c .form .edition) G))) ≡ true) (k .form) q))))
       (λ q. rw q (subst⁻¹ (Goes (λ ps. move-to (taken ps) (next-order ps))) (k .form) (moves (k .front) (k .first) (k .rest) h′ s (k .worn) p′))))))))

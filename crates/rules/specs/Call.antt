@@ -1,5 +1,5 @@
--- 01, "What each call does" and "Answers by number": the whole outcome of each call, accepted or refused.
-use Prim.Native.Nat.{ℕ, zero, suc, _+_, _*_, _/_, _%_}
+-- C and N: the whole outcome of each call, accepted or refused.
+use Prim.Native.Nat.{ℕ, zero, suc, _/_, _%_, _<_}
 use mathlib.Core.Bool.{Bool, true, false, cond, not, _&&_, _||_}
 use mathlib.Core.List.{List, [], _∷_, _++_, map}
 use mathlib.Core.Option.{Option, none, some}
@@ -7,24 +7,26 @@ use lib.ListN.{length, take, drop}
 use lib.Dec.{eqb, leb, ltb}
 use Rattle.rules.specs.Flash.{Step, run}
 use Rattle.rules.specs.Word.{Word, words}
-use Rattle.rules.specs.Page.{State, Page, page}
+use Rattle.rules.specs.Page.{Form, size, State, Page, page}
 use Rattle.rules.specs.Store.{states, base, used, is-open, used-orders, active-order, count, held, value}
 use Rattle.rules.specs.Steps.{format-steps, recovery-steps, write-steps, unclean, is-value, has-free-slot}
 
--- "1,024-byte pages"; "the byte 1" of a wear word; "held addresses at most 192"; "order 0 to 4,194,303"
-abbrev pub page-size : ℕ
-page-size = 1024
+-- P1. the one form that there is: pages of 1,024 bytes, and so 253 slots
+abbrev pub this-form : Form
+this-form = record { slot-count = 253; edition = 1 }
 
-abbrev pub page-edition : ℕ
-page-edition = 1
-
+-- S7. how many addresses may be held; W8. the last order
 abbrev pub held-limit : ℕ
 held-limit = 192
 
 abbrev pub order-limit : ℕ
 order-limit = 4194303
 
--- the answers by number
+-- a page of the form has more slots than addresses may be held
+abbrev pub Roomy : Form → Type 0
+Roomy f = held-limit < f .slot-count
+
+-- N0 to N8. the answers by number
 abbrev pub OK : ℕ
 OK = 0
 
@@ -52,26 +54,26 @@ ORDER-END = 7
 abbrev pub NOT-HELD : ℕ
 NOT-HELD = 8
 
--- the pages of an image of n pages, each of `size` bytes
+-- P2. Pages of an image: n of them, each of `size` bytes.
 unfoldable pub cut : (size n : ℕ) → List ℕ → List (List Word)
 cut size zero i = []
 cut size (suc n) i = words (take size i) ∷ cut size n (drop size i)
 
-unfoldable pub page-count : List ℕ → ℕ
-page-count i = length i / page-size
+unfoldable pub page-count : Form → List ℕ → ℕ
+page-count f i = length i / size f
 
-unfoldable pub pages : List ℕ → List Page
-pages i = map (page page-edition) (cut page-size (page-count i) i)
+unfoldable pub pages : Form → List ℕ → List Page
+pages f i = map (page (f .edition)) (cut (size f) (page-count f i) i)
 
--- the table, row by row: "length is no multiple of 1,024, or pages below 2 or above 32"
-unfoldable pub wrong-size : List ℕ → Bool
-wrong-size i = not (eqb (length i % page-size) 0) || (ltb (page-count i) 2 || ltb 32 (page-count i))
+-- N1. SIZE: the page size does not divide the length, or there are fewer than 2 pages or more than 32.
+unfoldable pub wrong-size : Form → List ℕ → Bool
+wrong-size f i = not (eqb (length i % size f) 0) || (ltb (page-count f i) 2 || ltb 32 (page-count f i))
 
--- "no open page"
+-- N2. NO STORE: no page is open.
 unfoldable pub no-store : List Page → Bool
 no-store ps = eqb (count is-open (states ps)) 0
 
--- "two used pages of one order, or every page used, or more than 192 held"
+-- N3. DAMAGED: two used pages have one order, or all pages are used, or more than 192 addresses are held.
 unfoldable pub among : ℕ → List ℕ → Bool
 among o [] = false
 among o (n ∷ ns) = eqb o n || among o ns
@@ -87,15 +89,15 @@ unfoldable pub damaged : List Page → Bool
 damaged ps =
     repeats (used-orders (base (states ps)) (states ps)) || (all-used (states ps) || ltb held-limit (held ps))
 
--- "a page neither used nor cleared"
+-- N4. UNCLEAN: a page is unclean.
 unfoldable pub is-unclean : List State → Bool
 is-unclean ss = not (eqb (count (unclean (base ss)) ss) 0)
 
--- "address 65,535": the greatest that a caller can name
+-- N5. ADDRESS: 65,535, the greatest that a caller can name.
 unfoldable pub wrong-address : ℕ → Bool
 wrong-address a = leb 65535 a
 
--- "address not held, and 192 are"
+-- N6. NO ROOM: the address isn't held, and 192 others are.
 unfoldable pub is-held : Option ℕ → Bool
 is-held none = false
 is-held (some v) = true
@@ -103,7 +105,7 @@ is-held (some v) = true
 unfoldable pub no-room : (address : ℕ) → List Page → Bool
 no-room a ps = not (is-held (value a ps)) && leb held-limit (held ps)
 
--- "a new page is needed and the active order is 4,194,303"
+-- N7. ORDER END: there is no free slot, and the active order is the last.
 unfoldable pub order-end : List Page → Bool
 order-end ps = not (has-free-slot ps) && eqb (active-order (states ps)) order-limit
 
@@ -111,7 +113,7 @@ order-end ps = not (has-free-slot ps) && eqb (active-order (states ps)) order-li
 pub data Row : Type 0 where
   row : (number : ℕ) (given : Bool) → Row
 
--- "Tests go in this order": the first row whose test holds gives the number, and OK is given if there is none.
+-- N20. Order of the tests: the first row whose test holds gives the number, and OK is given if there is none.
 unfoldable pub first-of : List Row → ℕ
 first-of [] = OK
 first-of (row n t ∷ rows) = cond t n (first-of rows)
@@ -120,41 +122,40 @@ unfoldable pub then : ℕ → ℕ → ℕ
 then zero next = next
 then (suc n) next = suc n
 
--- "Format gives 1 only; recovery 1 to 3", and so does lookup; "blank read also 5"; "read 1, 2, 3, 5, 8"
-unfoldable pub store-rows : List ℕ → List Row
-store-rows i = row SIZE (wrong-size i) ∷ row NO-STORE (no-store (pages i)) ∷ row DAMAGED (damaged (pages i)) ∷ []
+-- N21. Which call gives which: recovery and lookup 1 to 3, blank read 5 besides, read 8 besides.
+unfoldable pub store-rows : (form : Form) → List ℕ → List Row
+store-rows f i = row SIZE (wrong-size f i) ∷ row NO-STORE (no-store (pages f i)) ∷ row DAMAGED (damaged (pages f i)) ∷ []
 
-unfoldable pub blank-read-rows : (address : ℕ) → List ℕ → List Row
-blank-read-rows a i = store-rows i ++ (row ADDRESS (wrong-address a) ∷ [])
+unfoldable pub blank-read-rows : (form : Form) (address : ℕ) → List ℕ → List Row
+blank-read-rows f a i = store-rows f i ++ (row ADDRESS (wrong-address a) ∷ [])
 
-unfoldable pub read-rows : (address : ℕ) → List ℕ → List Row
-read-rows a i = blank-read-rows a i ++ (row NOT-HELD (not (is-held (value a (pages i)))) ∷ [])
+unfoldable pub read-rows : (form : Form) (address : ℕ) → List ℕ → List Row
+read-rows f a i = blank-read-rows f a i ++ (row NOT-HELD (not (is-held (value a (pages f i)))) ∷ [])
 
--- "write 1 to 7. A write of the held value is tested against 1 to 5 only": a row of OK ends the table.
-unfoldable pub write-rows : (address value : ℕ) → List ℕ → List Row
-write-rows a v i =
-    store-rows i
-    ++ (row UNCLEAN (is-unclean (states (pages i)))
+-- Write gives 1 to 7. N23. The held value: it is not tested for 6 and 7, so a row of OK ends the table there.
+unfoldable pub write-rows : (form : Form) (address value : ℕ) → List ℕ → List Row
+write-rows f a v i =
+    store-rows f i
+    ++ (row UNCLEAN (is-unclean (states (pages f i)))
     ∷ row ADDRESS (wrong-address a)
-    ∷ row OK (is-value (value a (pages i)) v)
-    ∷ row NO-ROOM (no-room a (pages i))
-    ∷ row ORDER-END (order-end (pages i))
+    ∷ row OK (is-value (value a (pages f i)) v)
+    ∷ row NO-ROOM (no-room a (pages f i))
+    ∷ row ORDER-END (order-end (pages f i))
     ∷ [])
 
-unfoldable pub store-number : List ℕ → ℕ
-store-number i = first-of (store-rows i)
+unfoldable pub store-number : (form : Form) → List ℕ → ℕ
+store-number f i = first-of (store-rows f i)
 
-unfoldable pub write-number : (address value : ℕ) → List ℕ → ℕ
-write-number a v i = first-of (write-rows a v i)
+unfoldable pub write-number : (form : Form) (address value : ℕ) → List ℕ → ℕ
+write-number f a v i = first-of (write-rows f a v i)
 
-unfoldable pub blank-read-number : (address : ℕ) → List ℕ → ℕ
-blank-read-number a i = first-of (blank-read-rows a i)
+unfoldable pub blank-read-number : (form : Form) (address : ℕ) → List ℕ → ℕ
+blank-read-number f a i = first-of (blank-read-rows f a i)
 
-unfoldable pub read-number : (address : ℕ) → List ℕ → ℕ
-read-number a i = first-of (read-rows a i)
+unfoldable pub read-number : (form : Form) (address : ℕ) → List ℕ → ℕ
+read-number f a i = first-of (read-rows f a i)
 
--- what a call answers. "A refusal answers value 0, 0 steps, not finished, not paired, four zero digits, and changes no byte
--- of the image."
+-- N22. What a call answers; refused, it answers nothing but its number and leaves the image.
 pub record Formatted : Type 0 where
   pub number : ℕ
   pub image : List ℕ
@@ -177,53 +178,53 @@ pub record Pairing : Type 0 where
 unfoldable pub accepted : ℕ → Bool
 accepted number = eqb number OK
 
--- Format. "always all of them, so only its last image shows"
-unfoldable pub format : List ℕ → Formatted
-format i =
-    cond (wrong-size i) (record { number = SIZE; image = i })
-    (record { number = OK; image = run page-size (format-steps page-edition (page-count i)) i })
+-- C5. Format does all its steps.
+unfoldable pub format : (form : Form) → List ℕ → Formatted
+format f i =
+    cond (wrong-size f i) (record { number = SIZE; image = i })
+    (record { number = OK; image = run (size f) (format-steps (f .edition) (page-count f i)) i })
 
--- "They do that many of the steps fixed by the image at the call, or all if there are fewer, and answer the number done,
--- and finished exactly if no step is left."
-unfoldable pub stepped : (number allowance : ℕ) → List Step → List ℕ → Stepped
-stepped number n ss i =
+-- C15. Allowance: that many of the steps are done, or all if there are no more; finished if none is left.
+unfoldable pub stepped : (form : Form) (number allowance : ℕ) → List Step → List ℕ → Stepped
+stepped f number n ss i =
     cond (accepted number)
-    (record { number = number; steps = length (take n ss); finished = leb (length ss) n; image = run page-size (take n ss) i })
+    (record { number = number; steps = length (take n ss); finished = leb (length ss) n; image = run (size f) (take n ss) i })
     (record { number = number; steps = 0; finished = false; image = i })
 
-unfoldable pub recover : (allowance : ℕ) → List ℕ → Stepped
-recover n i = stepped (store-number i) n (recovery-steps page-edition (pages i)) i
+unfoldable pub recover : (form : Form) (allowance : ℕ) → List ℕ → Stepped
+recover f n i = stepped f (store-number f i) n (recovery-steps (f .edition) (pages f i)) i
 
-unfoldable pub write : (address value allowance : ℕ) → List ℕ → Stepped
-write a v n i = stepped (write-number a v i) n (write-steps page-edition a v (pages i)) i
+unfoldable pub write : (form : Form) (address value allowance : ℕ) → List ℕ → Stepped
+write f a v n i = stepped f (write-number f a v i) n (write-steps (f .edition) a v (pages f i)) i
 
 unfoldable pub or-value : Option ℕ → ℕ → ℕ
 or-value none other = other
 or-value (some v) other = v
 
-unfoldable pub read : (address : ℕ) → List ℕ → Reading
-read a i =
-    let number = read-number a i in
-    record { number = number; value = cond (accepted number) (or-value (value a (pages i)) 0) 0 }
+-- C17. Read: the value of the address.
+unfoldable pub read : (form : Form) (address : ℕ) → List ℕ → Reading
+read f a i =
+    let number = read-number f a i in
+    record { number = number; value = cond (accepted number) (or-value (value a (pages f i)) 0) 0 }
 
--- "Blank read is read, with 255 for an address not held."
+-- C18. Blank read: 255 for an address that isn't held.
 unfoldable pub not-held-value : ℕ
 not-held-value = 255
 
-unfoldable pub blank-value : (address : ℕ) → List ℕ → ℕ
-blank-value a i = or-value (value a (pages i)) not-held-value
+unfoldable pub blank-value : (form : Form) (address : ℕ) → List ℕ → ℕ
+blank-value f a i = or-value (value a (pages f i)) not-held-value
 
-unfoldable pub blank-read : (address : ℕ) → List ℕ → Reading
-blank-read a i =
-    let number = blank-read-number a i in
-    record { number = number; value = cond (accepted number) (blank-value a i) 0 }
+unfoldable pub blank-read : (form : Form) (address : ℕ) → List ℕ → Reading
+blank-read f a i =
+    let number = blank-read-number f a i in
+    record { number = number; value = cond (accepted number) (blank-value f a i) 0 }
 
--- "Pairing lookup gives the four blank reads of addresses 16 to 19, and says paired exactly if none of them is 255."
-unfoldable pub digits : List ℕ → List ℕ
-digits i = blank-value 16 i ∷ blank-value 17 i ∷ blank-value 18 i ∷ blank-value 19 i ∷ []
+-- C19. Pairing lookup: the blank reads of 16 to 19, and paired if none of them is 255.
+unfoldable pub digits : (form : Form) → List ℕ → List ℕ
+digits f i = blank-value f 16 i ∷ blank-value f 17 i ∷ blank-value f 18 i ∷ blank-value f 19 i ∷ []
 
-unfoldable pub lookup : List ℕ → Pairing
-lookup i =
-    cond (accepted (store-number i))
-    (record { number = OK; paired = not (among 255 (digits i)); digits = digits i })
-    (record { number = store-number i; paired = false; digits = 0 ∷ 0 ∷ 0 ∷ 0 ∷ [] })
+unfoldable pub lookup : (form : Form) → List ℕ → Pairing
+lookup f i =
+    cond (accepted (store-number f i))
+    (record { number = OK; paired = not (among 255 (digits f i)); digits = digits f i })
+    (record { number = store-number f i; paired = false; digits = 0 ∷ 0 ∷ 0 ∷ 0 ∷ [] })

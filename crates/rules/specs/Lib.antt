@@ -1,4 +1,4 @@
--- Document 01, "What we are to build: the settings store, with rules", as definitions, in its words and order.
+-- The rules of docs/FORMAT.md as definitions, in its words and order. A comment that begins with an id cites the paragraph.
 pub mod Flash
 pub mod Word
 pub mod Page

@@ -1,10 +1,10 @@
--- 01, example 12: the bytes that the listing program prints.
+-- L: the bytes that the listing program prints.
 use Prim.Native.Nat.{ℕ, zero, suc, _+_, _/_, _%_}
 use mathlib.Core.Bool.{cond}
 use mathlib.Core.List.{List, [], _∷_, _++_}
 use lib.ListN.{length}
 use lib.Dec.{ltb}
-use Rattle.rules.specs.Page.{Page}
+use Rattle.rules.specs.Page.{Form, Page}
 use Rattle.rules.specs.Store.{states, base, used, is-cleared, active-order, count, Setting, setting, settings, held}
 use Rattle.rules.specs.Call.{store-number, accepted, pages}
 
@@ -41,20 +41,20 @@ space = 32 ∷ []
 abbrev pub line-end : List ℕ
 line-end = 10 ∷ []
 
--- "number of pages, of used and of cleared pages, the active order, the number held"
+-- L2. First line: the number of pages, of used and of cleared ones, the active order, the number held.
 unfoldable pub first-line : List Page → List ℕ
 first-line ps =
     text-pages ++ decimal (length ps) ++ text-used ++ decimal (count (used (base (states ps))) (states ps)) ++ text-cleared
     ++ decimal (count is-cleared (states ps)) ++ text-order ++ decimal (active-order (states ps)) ++ text-held
     ++ decimal (held ps) ++ line-end
 
--- "Then address and value, addresses rising."
+-- L3. Settings: address and value, addresses rising.
 unfoldable pub setting-lines : List Setting → List ℕ
 setting-lines [] = []
 setting-lines (setting a v ∷ rs) = decimal a ++ space ++ decimal v ++ line-end ++ setting-lines rs
 
--- "It refuses as recovery does and then prints one line, `refused` and the number."
-unfoldable pub listing : List ℕ → List ℕ
-listing i =
-    cond (accepted (store-number i)) (first-line (pages i) ++ setting-lines (settings (pages i)))
-    (text-refused ++ decimal (store-number i) ++ line-end)
+-- L5. Refusal: as recovery's, the number in one line.
+unfoldable pub listing : (form : Form) → List ℕ → List ℕ
+listing f i =
+    cond (accepted (store-number f i)) (first-line (pages f i) ++ setting-lines (settings (pages f i)))
+    (text-refused ++ decimal (store-number f i) ++ line-end)

@@ -1,16 +1,28 @@
--- 01, "Words" on the page's layout, and "Page states".
-use Prim.Native.Nat.{ℕ, _+_, _*_, _/_, _%_}
-use mathlib.Core.Bool.{Bool, true, false, cond, not, _&&_}
+-- P: pages and their states.
+use Prim.Native.Nat.{ℕ, suc, _+_, _*_, _/_, _%_}
+use mathlib.Core.Bool.{Bool, true, cond, _&&_}
 use mathlib.Core.List.{List, [], _∷_}
 use mathlib.Core.Option.{Option, none, some}
 use lib.ListN.{getD, drop}
 use lib.Dec.{eqb}
 use Rattle.rules.specs.Word.{Word, word, sound, blank, low16, low24, third}
 
+-- P1. Form: how many slots a page has behind its three header words, and the third byte of its wear word, its edition. The words
+-- of such a page, and its bytes.
+pub record Form : Type 0 where
+  pub slot-count : ℕ
+  pub edition : ℕ
+
+abbrev pub word-count : Form → ℕ
+word-count f = suc (suc (suc (f .slot-count)))
+
+abbrev pub size : Form → ℕ
+size f = 4 * word-count f
+
 abbrev pub blank-word : Word
 blank-word = word 255 255 255 255
 
--- "A page is three header words and then 253 slots": a page is the list of its words.
+-- P3. Layout: a page is the list of its words, three header words and then slots.
 unfoldable pub wear-part : List Word → Word
 wear-part p = getD p 0 blank-word
 
@@ -23,7 +35,7 @@ done-part p = getD p 2 blank-word
 unfoldable pub slots : List Word → List Word
 slots p = drop 3 p
 
--- where each of them stands in a page
+-- where each of them stands, by words
 abbrev pub wear-place : ℕ
 wear-place = 0
 
@@ -36,22 +48,21 @@ done-place = 2
 abbrev pub slot-place : ℕ → ℕ
 slot-place k = 3 + k
 
--- "sound wear word with third byte 1": the byte is the edition
+-- P4. Wear of a page: a sound first word with the edition gives it.
 unfoldable pub is-wear : (edition : ℕ) → Word → Bool
 is-wear edition w = sound w && eqb (third w) edition
 
--- the wear that a page's wear word gives, if it has such a word
 unfoldable pub wear-in : (edition : ℕ) → List Word → Option ℕ
 wear-in edition p = cond (is-wear edition (wear-part p)) (some (low16 (wear-part p))) none
 
--- "a sound opening word of kind 1", "of kind 2"; the order that it gives
+-- a sound opening word of a kind, and the order that it gives
 unfoldable pub is-opening : (kind : ℕ) → Word → Bool
 is-opening kind w = sound w && eqb (low24 w % 4) kind
 
 unfoldable pub order-in : Word → ℕ
 order-in w = low24 w / 4
 
--- "its matching done word"
+-- W9. the done word that matches an order, sound
 unfoldable pub is-done : (order : ℕ) → Word → Bool
 is-done order w = sound w && eqb (low24 w) (order * 4 + 3)
 
@@ -59,15 +70,15 @@ unfoldable pub all-blank : List Word → Bool
 all-blank [] = true
 all-blank (w ∷ ws) = blank w && all-blank ws
 
--- The states. A cleared page has its wear, an open one of kind 1 or 2 its order.
+-- P5 to P8. The states. A cleared page has its wear, an open one of kind 1 or 2 its order.
 pub data State : Type 0 where
   cleared : (wear : ℕ) → State
   open₁ open₂ : (order : ℕ) → State
   receiving : State
   bad : State
 
--- of a page with such a wear word: "a sound opening word of kind 1 (the third header word is not looked at), or of kind 2
--- with its matching done word"; "opening word of kind 2, no matching done word"; "all else 255"; "the rest"
+-- of a page that has a wear: open with kind 1, whatever its third word is, or with kind 2 and the done word that matches; receiving
+-- without that done word; cleared if the rest is blank; else bad
 unfoldable pub state-after-wear : List Word → (wear : ℕ) → State
 state-after-wear p wear =
     let opening = opening-part p in

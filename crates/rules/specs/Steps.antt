@@ -1,4 +1,4 @@
--- 01, "What each call does": the steps of format, recovery and write, fixed by the image at the call.
+-- C: the steps of format, recovery and write, fixed by the image at the call.
 use Prim.Native.Nat.{ℕ, zero, suc, _+_, min}
 use mathlib.Core.Bool.{Bool, true, false, cond, not, _||_}
 use mathlib.Core.List.{List, [], _∷_, _++_}
@@ -8,13 +8,14 @@ use lib.Dec.{eqb, leb, ltb}
 use Rattle.rules.specs.Flash.{Step, erase}
 use Rattle.rules.specs.Word.{word-steps, wear-word, opening-word, done-word, record-word}
 use Rattle.rules.specs.Page.{State, Page, wear-place, opening-place, done-place, slot-place}
-use Rattle.rules.specs.Store.{states, base, used, is-cleared, active-order, active-index, active-slots, count, least-worn, index, Setting, setting, settings, value, free-slot}
+use Rattle.rules.specs.Store.{states, base, used, is-cleared, active-order, active-index, active-slots, count, least-worn, index, Setting}
+use Rattle.rules.specs.Store.{setting, settings, value, free-slot}
 
--- "erase, program its wear word (3 steps)"
+-- C3. Renewing a page: it is erased and gets a wear word.
 unfoldable pub renew : (edition index wear : ℕ) → List Step
 renew edition k n = erase k ∷ word-steps k wear-place (wear-word edition n)
 
--- Format. "For each page in turn: erase, program wear word 1. Then the opening word of page 0: order 0, kind 1."
+-- C5. Format: each page is renewed with wear 1, then page 0 is opened with order 0.
 unfoldable pub renew-all : (edition from pages : ℕ) → List Step
 renew-all edition k zero = []
 renew-all edition k (suc n) = renew edition k 1 ++ renew-all edition (suc k) n
@@ -22,13 +23,12 @@ renew-all edition k (suc n) = renew edition k 1 ++ renew-all edition (suc k) n
 unfoldable pub format-steps : (edition pages : ℕ) → List Step
 format-steps edition n = renew-all edition 0 n ++ word-steps 0 opening-place (opening-word 1 0)
 
--- Recovery. "The new wear is one more than that of the sound wear word (third byte 1) read before the erase, at most
--- 65,535; a page without such a word gets 1."
+-- C4. New wear: one more than the page had, 65,535 at most; 1 if it had none.
 unfoldable pub renewed-wear : Option ℕ → ℕ
 renewed-wear none = 1
 renewed-wear (some n) = min (n + 1) 65535
 
--- the pages that a test picks, in index order, renewed
+-- the pages that a test of index and state picks, in index order, renewed
 unfoldable pub add-steps : Bool → List Step → List Step → List Step
 add-steps true these rest = these ++ rest
 add-steps false these rest = rest
@@ -38,15 +38,15 @@ renewals edition picks k [] = []
 renewals edition picks k (p ∷ ps) =
     add-steps (picks k (p .state)) (renew edition k (renewed-wear (p .wear))) (renewals edition picks (suc k) ps)
 
--- "Each page that is neither used nor cleared"
+-- S9. Unclean: neither used nor cleared. C6. Recovery: the unclean pages are renewed.
 unfoldable pub unclean : (base : ℕ) → State → Bool
 unclean b s = not (used b s || is-cleared s)
 
 unfoldable pub recovery-steps : (edition : ℕ) → List Page → List Step
 recovery-steps edition ps = renewals edition (λ k s. unclean (base (states ps)) s) 0 ps
 
--- Write. Where the record goes is its way: nowhere, "If the address holds that value already"; into the free slot of the active
--- page; into a cleared page, opened with an order; or, with all that is held, into the last cleared page, moved to with an order.
+-- C7. Write: which way. The record goes nowhere, the address having the value already; into the free slot; into a cleared page, which
+-- is opened with an order; or, with all that is held, into the last cleared page, which is moved to with an order.
 pub data Way : Type 0 where
   stay : Way
   append-to : (page slot : ℕ) → Way
@@ -60,7 +60,7 @@ is-value (some u) v = eqb u v
 unfoldable pub has-free-slot : List Page → Bool
 has-free-slot ps = ltb (free-slot (active-slots ps)) (length (active-slots ps))
 
--- the page that is taken: "the one of least wear, lowest index on a tie"; its order: "active order + 1"
+-- the page that is taken, and its order: the active order + 1
 unfoldable pub taken : List Page → ℕ
 taken ps = index (least-worn 0 (states ps))
 
@@ -75,15 +75,15 @@ way a v ps =
     cond (is-value (value a ps) v) stay
     (cond (has-free-slot ps) (append-to (active-index (states ps)) (free-slot (active-slots ps))) (new-page ps))
 
--- "program the record there (2 steps)"
+-- C9. Write into the free slot.
 unfoldable pub append-steps : (page slot address value : ℕ) → List Step
 append-steps p k a v = word-steps p (slot-place k) (record-word a v)
 
--- "program its opening word (active order + 1, kind 1), then the record in slot 0 (4 steps)"
+-- C10. Write into a new page: its opening word, kind 1, then the record in its slot 0.
 unfoldable pub open-steps : (page order address value : ℕ) → List Step
 open-steps p o a v = word-steps p opening-place (opening-word 1 o) ++ word-steps p (slot-place 0) (record-word a v)
 
--- "Copy every held address but the written one, addresses rising, then the new record."
+-- C12. Copies: a record for each held address but the written one, addresses rising; behind them the new one.
 unfoldable pub but : (address : ℕ) → List Setting → List Setting
 but a [] = []
 but a (setting b u ∷ rs) = cond (eqb a b) (but a rs) (setting b u ∷ but a rs)
@@ -95,12 +95,12 @@ unfoldable pub copy-steps : (page slot : ℕ) → List Setting → List Step
 copy-steps p k [] = []
 copy-steps p k (setting a v ∷ rs) = word-steps p (slot-place k) (record-word a v) ++ copy-steps p (suc k) rs
 
--- "program its opening word (active order + 1, kind 2). Copy ... Program the done word."
+-- C11. Move: the opening word, kind 2, the copies from slot 0 on, the done word.
 unfoldable pub fill-steps : (page order : ℕ) → List Setting → List Step
 fill-steps p o rs =
     word-steps p opening-place (opening-word 2 o) ++ copy-steps p 0 rs ++ word-steps p done-place (done-word o)
 
--- "Then treat every other page, in index order, as recovery does": no other page is used then, and none is cleared.
+-- C13. Then every other page is renewed: none of them is used by then, and none is cleared.
 unfoldable pub other : (page index : ℕ) → State → Bool
 other p k s = not (eqb k p)
 

@@ -1,8 +1,7 @@
--- 01, "Page states", from the base order on; the free slot and the cleared page of least wear, from "Write".
--- A store is the list of its pages, by index.
+-- S: the store. It is the list of its pages, by index.
 use Prim.Native.Nat.{ℕ, zero, suc, _+_, _<_, max}
-use mathlib.Core.Bool.{Bool, true, false, cond, not, _&&_, _||_}
-use mathlib.Core.List.{List, [], _∷_, _++_, map}
+use mathlib.Core.Bool.{Bool, true, false, cond, _&&_}
+use mathlib.Core.List.{List, [], _∷_, _++_}
 use mathlib.Core.Option.{Option, none, some}
 use lib.ListN.{length}
 use lib.Dec.{eqb, leb, ltb}
@@ -13,7 +12,7 @@ unfoldable pub states : List Page → List State
 states [] = []
 states (p ∷ ps) = p .state ∷ states ps
 
--- "The base order is the greatest order of an open page of kind 2, or 0 if there is none."
+-- S1. Base order: the greatest order of an open page of kind 2, 0 without one.
 unfoldable pub order₂ : State → ℕ
 order₂ (cleared n) = 0
 order₂ (open₁ o) = 0
@@ -25,7 +24,7 @@ unfoldable pub base : List State → ℕ
 base [] = 0
 base (s ∷ ss) = max (order₂ s) (base ss)
 
--- "Used pages are the open ones of that order or greater."
+-- S2. Used: open, with the base order or a greater one.
 unfoldable pub used : (base : ℕ) → State → Bool
 used b (cleared n) = false
 used b (open₁ o) = leb b o
@@ -72,7 +71,7 @@ unfoldable pub greatest : List ℕ → ℕ
 greatest [] = 0
 greatest (o ∷ os) = max o (greatest os)
 
--- "The active page is the used one of greatest order": its order, and its index
+-- S3. Active: the used page of greatest order. Its order, and its index.
 unfoldable pub active-order : List State → ℕ
 active-order ss = greatest (used-orders (base ss) ss)
 
@@ -103,11 +102,11 @@ unfoldable pub oldest-first : List Page → List Page
 oldest-first [] = []
 oldest-first (p ∷ ps) = insert p (oldest-first ps)
 
--- an address with its value
+-- S7. an address with its value
 pub data Setting : Type 0 where
   setting : (address value : ℕ) → Setting
 
--- the records of a page that count, in slot order
+-- S5. The records that count: of a page, in slot order.
 unfoldable pub add-record : Condition → Word → List Setting → List Setting
 add-record Sound w rs = setting (low16 w) (third w) ∷ rs
 add-record Blank w rs = rs
@@ -126,7 +125,7 @@ all-records (p ∷ ps) = records (p .slots) ++ all-records ps
 unfoldable pub journal : List Page → List Setting
 journal ps = all-records (oldest-first (used-pages (base (states ps)) ps))
 
--- "The value of an address is the one in the last sound slot that names it": the last that the journal has
+-- S6. Value: the last that the journal has of the address.
 unfoldable pub or-else : Option ℕ → Option ℕ → Option ℕ
 or-else none o = o
 or-else (some v) o = some v
@@ -138,7 +137,7 @@ last-of a (setting b v ∷ rs) = or-else (last-of a rs) (cond (eqb a b) (some v)
 unfoldable pub value : (address : ℕ) → List Page → Option ℕ
 value a ps = last-of a (journal ps)
 
--- "An address found so is held": the held addresses, rising, each with its value. A record takes its address's place.
+-- S7. Held: the held addresses, rising, each with its value. A record takes the place of an earlier one of its address.
 unfoldable pub put : Setting → List Setting → List Setting
 put s [] = s ∷ []
 put (setting a v) (setting b u ∷ rs) =
@@ -152,7 +151,7 @@ put-all held (r ∷ rs) = put-all (put r held) rs
 unfoldable pub settings : List Page → List Setting
 settings ps = put-all [] (journal ps)
 
--- "addresses rising": each address is below those behind it
+-- addresses rising: each is below those behind it
 unfoldable pub Above : ℕ → List Setting → Type 0
 Above a [] = Unit {0}
 Above a (setting b u ∷ rs) = (a < b) × Above a rs
@@ -164,7 +163,7 @@ Rising (setting a v ∷ rs) = Above a rs × Rising rs
 unfoldable pub held : List Page → ℕ
 held ps = length (settings ps)
 
--- "The free slot is the one after the last slot that isn't blank": how many slots come before it
+-- S8. Free slot: the one behind the last that isn't blank. How many slots come before it.
 unfoldable pub past : Bool → ℕ → ℕ
 past true zero = zero
 past true (suc n) = suc (suc n)
@@ -183,11 +182,12 @@ slots-at (suc k) (p ∷ ps) = slots-at k ps
 unfoldable pub active-slots : List Page → List Word
 active-slots ps = slots-at (active-index (states ps)) ps
 
--- the cleared pages: how many, and the one "of least wear, lowest index on a tie"
+-- how many pages pass a test
 unfoldable pub count : (State → Bool) → List State → ℕ
 count test [] = 0
 count test (s ∷ ss) = cond (test s) 1 0 + count test ss
 
+-- S10. The page that is taken: the cleared one of least wear, of several such the one of lowest index.
 pub data Candidate : Type 0 where
   nobody : Candidate
   page : (index wear : ℕ) → Candidate

@@ -10,6 +10,6 @@ unfoldable pub rows : (addresses values : List ℕ) → (n : ℕ) → List Setti
 rows xs ys zero = []
 rows xs ys (suc n) = rows xs ys n ++ (setting (getD xs n 0) (getD ys n 0) ∷ [])
 
--- "every held address but the written one, addresses rising, then the new record"
+-- C12. Copies: every held address but the written one, by rising address; then the new record.
 unfoldable pub copied : (addresses values : List ℕ) → (held address value : ℕ) → List Setting
 copied xs ys n a v = but a (rows xs ys n) ++ (setting a v ∷ [])

@@ -5,13 +5,13 @@ use mathlib.Core.List.{List, map}
 use lib.ListN.{getD}
 use Rattle.rules.specs.Flash.{Step, bytes-at}
 use Rattle.rules.specs.Word.{words}
-use Rattle.rules.specs.Page.{page, wear-in}
+use Rattle.rules.specs.Page.{Form, size, page, wear-in}
 use Rattle.rules.specs.Steps.{renewed-wear, renewals}
 use Rattle.rules.specs.Call.{cut}
 
 -- the wear that the page at an index is to get
-unfoldable pub wear-at : (edition page : ℕ) → List ℕ → ℕ
-wear-at edition p i = renewed-wear (wear-in edition (words (bytes-at (p * 1024) 1024 i)))
+unfoldable pub wear-at : (form : Form) (page : ℕ) → List ℕ → ℕ
+wear-at f p i = renewed-wear (wear-in (f .edition) (words (bytes-at (p * size f) (size f) i)))
 
-unfoldable pub picked-steps : (edition n : ℕ) → (picks : List Bool) → List ℕ → List Step
-picked-steps edition n picks i = renewals edition (λ k s. getD picks k false) 0 (map (page edition) (cut 1024 n i))
+unfoldable pub picked-steps : (form : Form) (n : ℕ) (picks : List Bool) → List ℕ → List Step
+picked-steps f n picks i = renewals (f .edition) (λ k s. getD picks k false) 0 (map (page (f .edition)) (cut (size f) n i))

@@ -1,103 +1,161 @@
 -- The records of the used pages, gathered page by page. Assumes nothing.
-use Prim.Native.Nat.{ℕ, zero, suc, _+_, _-_, _*_, _≤_, _<_}
+use Prim.Native.Nat.{ℕ, suc, _+_, _-_, _≤_, _<_}
 use mathlib.Core.Path.{_≡_, refl, sym, ap, ap₂, _∙_, subst}
-use mathlib.Core.List.{List, [], _∷_, _++_, map, append-nil, append-assoc}
+use mathlib.Core.Logic.{_⊎_, inl, inr}
+use mathlib.Core.List.{List, [], _∷_, _++_, append-nil, append-assoc}
 use native.Mathlib.Numerals.{add-one}
 use native.Mathlib.Omega.{arith}
-use lib.ListN.{length, getD, take, drop, length-map, List·getD-map}
-use lib.Seq.{take-suc, drop-drop, getD-take, length-take-le, take-nil}
-use Rattle.rules.specs.Flash.{bytes-at}
-use Rattle.rules.specs.Word.{words}
-use Rattle.rules.specs.Page.{Page, page, slots}
-use Rattle.rules.specs.Store.{Setting, records, all-records, put-all, states, base, journal, settings}
-use Rattle.rules.specs.Call.{page-size, page-edition, page-count, cut, pages}
-use Rattle.rules.proofs.Cut.{cut-length, cut-page}
-use Rattle.rules.proofs.Stores.{all-records-append}
+use lib.ListN.{length, getD, take, drop}
+use lib.Seq.{take-suc, take-all, take-append-seam, getD-take, length-take-le}
+use lib.Dec.{eqb, ltb}
+use borrow.Author.Tests.{eqb-true, eqb-false, ltb-true, ltb-false}
+use Rattle.rules.specs.Word.{Word, blank}
+use Rattle.rules.specs.Page.{Form, size, State, page, blank-word, all-blank}
+use Rattle.rules.specs.Store.{Setting, records, all-records, free-slot, active-index, active-slots, slots-at, put-all, states, base, journal, settings}
+use Rattle.rules.specs.Call.{page-count, pages}
+use Rattle.rules.proofs.Cut.{page-within, pages-long}
+use Rattle.rules.proofs.Truth.{by-cases}
+use Rattle.rules.proofs.Stores.{length-states, count-all, all-records-append}
+use Rattle.rules.proofs.Ready.{right-sizes}
 use Rattle.rules.proofs.Settings.{settings-rising, put-all-append}
-use Rattle.pages.proofs.Header.{slots-at}
-use Rattle.ranks.specs.Places.{at-places}
-use Rattle.ranks.proofs.Meaning.{Lists, at-place}
+use Rattle.rules.proofs.Slots.{FreeAt, free-at, records-append, blank-records}
 use Rattle.settings.specs.Held.{Holds, Become}
-use Rattle.store.specs.Gather.{gathered}
+use Rattle.survey.specs.States.{slots-in}
+use Rattle.survey.specs.Places.{at-places}
+use Rattle.survey.specs.declared.Look.{Look}
+use Rattle.survey.specs.Look.{pages-number, Lines, Told, Looks}
+use Rattle.survey.proofs.Line.{at-place}
+use Rattle.survey.proofs.Slots.{page-slots, slots-are, slots-many}
+use Rattle.survey.proofs.Looking.{pages-sized}
+use Rattle.store.specs.Gather.{gathered, Passes}
 
--- ---- the slots of a page, as the part that the code lends
+-- ---- the slots before the free one
 
-drop-take : {A : Type 0} (m n : ℕ) (l : List A) → drop m (take n l) ≡ take (n - m) (drop m l)
-drop-take zero n l = let e : n ≡ n - 0 = omega arith in ap (λ (x : ℕ). take x l) e
-drop-take (suc m) zero l = let e : 0 ≡ 0 - suc m = omega arith in ap (λ (x : ℕ). take x (drop (suc m) l)) e
-drop-take (suc m) (suc n) [] = sym (take-nil (suc n - suc m))
-drop-take (suc m) (suc n) (x ∷ l) = let e : n - m ≡ suc n - suc m = omega arith in drop-take m n l ∙ ap (λ (y : ℕ). take y (drop m l)) e
+-- the free slot is a blank one, and blank ones are behind it
+before-free : (ws : List Word) → FreeAt ws → records (take (free-slot ws) ws) ≡ records ws
+unfolding all-blank blank
+before-free ws at =
+    let behind : records (blank-word ∷ at .rest) ≡ [] = blank-records (blank-word ∷ at .rest) (at .behind) in
+    let front : take (free-slot ws) ws ≡ at .front =
+    ap₂ (λ (n : ℕ) (vs : List Word). take n vs) (sym (at .place)) (at .form) ∙ take-append-seam (at .front) (blank-word ∷ at .rest) in
+    ap records front
+    ∙ sym (append-nil (records (at .front)))
+    ∙ ap (λ (rs : List Setting). records (at .front) ++ rs) (sym behind)
+    ∙ sym (records-append (at .front) (blank-word ∷ at .rest))
+    ∙ ap records (sym (at .form))
 
-pub slots-part : (at : ℕ) (i : List ℕ) → words (take (at + 1024 - (at + 12)) (drop (at + 12) i)) ≡ slots (words (bytes-at at 1024 i))
-unfolding bytes-at
-slots-part at i =
-    let e : at + 1024 - (at + 12) ≡ 1024 - 12 = omega arith in
-    ap (λ (x : ℕ). words (take x (drop (at + 12) i))) e
-    ∙ ap (λ (l : List ℕ). words (take (1024 - 12) l)) (sym (drop-drop 12 at i))
-    ∙ ap words (sym (drop-take 12 1024 (drop at i)))
-    ∙ slots-at (take 1024 (drop at i))
+-- a blank slot has no record: all are in the slots before the free one
+pub records-before : (ws : List Word) → records (take (free-slot ws) ws) ≡ records ws
+records-before ws =
+    by-cases (ltb (free-slot ws) (length ws)) (λ t. before-free ws (free-at ws (ltb-true (free-slot ws) (length ws) t)))
+    (λ t. ap records (take-all (free-slot ws) ws (ltb-false (free-slot ws) (length ws) t)))
+
+-- what the look tells is what is to be passed
+module _ {fm : Form} {i : List ℕ} {look : Look} (h : Looks fm i look) where
+  abbrev all : List State
+  all = states (pages fm i)
+
+  passes-all : pages-number fm i ≡ 0 → Told fm i look → Passes fm i (look .line) (look .used) (look .free)
+  unfolding active-slots
+  passes-all ok t =
+      let sizes = right-sizes fm i (pages-sized fm i ok) in
+      let few : look .used ≤ 32 =
+      omega (arith, t .uses, count-all (base all) all, length-states (pages fm i), pages-long fm i, sizes .most) in
+      let place : (k : ℕ) → k + 1 ≡ look .used → active-index all ≡ getD (look .line) k 0 =
+      λ k e. sym (t .line .last) ∙ (let z : look .used - 1 ≡ k = omega arith in rw z) in
+      record {
+        few = few;
+        long = t .line .long;
+        room = λ l. t .room;
+        places = λ k l. let w = t .line .within k l in let m = sizes .most in omega arith;
+        within = λ k l.
+            let w = page-within (size fm) (page-count fm i) (getD (look .line) k 0) (t .line .within k l) in let s = sizes .sized in omega arith;
+        last = λ k e.
+            let w = t .line .within k (omega arith) in
+            t .free ∙ ap free-slot (ap (λ (j : ℕ). slots-at j (pages fm i)) (place k e) ∙ slots-are fm (getD (look .line) k 0) i w);
+      }
+
+  pub passes : Passes fm i (look .line) (look .used) (look .free)
+  passes =
+      by-cases (eqb (look .number) 0)
+      (λ t. let z = eqb-true (look .number) 0 t in passes-all (sym (h .number) ∙ z) (h .told z))
+      (λ t.
+      let none = h .none (eqb-false (look .number) 0 t) in
+      record {
+        few = omega arith;
+        long = omega arith;
+        room = λ l. absurd (omega arith);
+        places = λ k l. absurd (omega arith);
+        within = λ k l. absurd (omega arith);
+        last = λ k e. absurd (omega arith);
+      })
+
+-- so many slots of the page at a place of the line are passed: all, or of the last one those before the free one
+abbrev pub Passed : (form : Form) (used free k n : ℕ) → Type 0
+Passed fm used free k n = ((k + 1 ≡ used) × (n ≡ free)) ⊎ (n ≡ fm .slot-count)
+
+module _ {fm : Form} {i line : List ℕ} {used free : ℕ} (p : Passes fm i line used free) (k n : ℕ) (l : k < used) where
+  pub slots-few : Passed fm used free k n → n ≤ fm .slot-count
+  slots-few (inl w) = let e = w .1 in omega (arith, p .room (omega arith))
+  slots-few (inr e) = omega arith
+
+  -- then no record is passed over
+  pub all-passed : Passed fm used free k n → records (take n (slots-in fm (getD line k 0) i)) ≡ records (slots-in fm (getD line k 0) i)
+  all-passed (inl w) = rw (w .1 ∙ p .last k (w .0)) (records-before (slots-in fm (getD line k 0) i))
+  all-passed (inr e) = ap records (take-all n (slots-in fm (getD line k 0) i) (omega (arith, slots-many fm (getD line k 0) i (p .within k l))))
 
 -- ---- one page more
 
-gathered-append : (i xs ys : List ℕ) → gathered i (xs ++ ys) ≡ gathered i xs ++ gathered i ys
+gathered-append : (fm : Form) (i xs ys : List ℕ) → gathered fm i (xs ++ ys) ≡ gathered fm i xs ++ gathered fm i ys
 unfolding gathered
-gathered-append i [] ys = refl
-gathered-append i (k ∷ xs) ys =
-    ap (λ (rs : List Setting). records (slots (words (bytes-at (k * 1024) 1024 i))) ++ rs) (gathered-append i xs ys)
-    ∙ sym (append-assoc (records (slots (words (bytes-at (k * 1024) 1024 i)))) (gathered i xs) (gathered i ys))
+gathered-append fm i [] ys = refl
+gathered-append fm i (k ∷ xs) ys =
+    ap (λ (rs : List Setting). records (slots-in fm k i) ++ rs) (gathered-append fm i xs ys)
+    ∙ sym (append-assoc (records (slots-in fm k i)) (gathered fm i xs) (gathered fm i ys))
 
-gathered-next : (i places : List ℕ) (k : ℕ) → k < length places → gathered i (take (k + 1) places) ≡ gathered i (take k places) ++ records (slots (words (bytes-at (getD places k 0 * 1024) 1024 i)))
-unfolding gathered
-gathered-next i places k l =
-    rw add-one
-    (ap (gathered i) (take-suc places k 0 l) ∙ gathered-append i (take k places) (getD places k 0 ∷ [])
-    ∙ ap (λ (rs : List Setting). gathered i (take k places) ++ rs) (append-nil (records (slots (words (bytes-at (getD places k 0 * 1024) 1024 i))))))
+module _ (fm : Form) (i line : List ℕ) (k : ℕ) (l : k < length line) where
+  gathered-next : gathered fm i (take (k + 1) line) ≡ gathered fm i (take k line) ++ records (slots-in fm (getD line k 0) i)
+  unfolding gathered
+  gathered-next =
+      let here = records (slots-in fm (getD line k 0) i) in
+      rw add-one
+      (ap (gathered fm i) (take-suc line k 0 l) ∙ gathered-append fm i (take k line) (getD line k 0 ∷ [])
+      ∙ ap (λ (rs : List Setting). gathered fm i (take k line) ++ rs) (append-nil here))
 
-pub gather-more : (i places : List ℕ) (k : ℕ) (xs ys : List ℕ) (h : ℕ) (xs′ ys′ : List ℕ) (h′ : ℕ) → k < length places
-    → Holds xs ys h (put-all [] (gathered i (take k places)))
-    → Become (λ t. put-all t (records (words (take (getD places k 0 * 1024 + 1024 - (getD places k 0 * 1024 + 12)) (drop (getD places k 0 * 1024 + 12) i))))) xs ys h xs′ ys′ h′
-    → Holds xs′ ys′ h′ (put-all [] (gathered i (take (k + 1) places)))
-gather-more i places k xs ys h xs′ ys′ h′ l holds become =
-    let J = gathered i (take k places) in
-    let at = getD places k 0 * 1024 in
-    let e : put-all (put-all [] J) (records (words (take (at + 1024 - (at + 12)) (drop (at + 12) i)))) ≡ put-all [] (gathered i (take (k + 1) places)) =
-    ap (λ (rs : List Setting). put-all (put-all [] J) rs) (ap records (slots-part at i)) ∙ sym (put-all-append [] J (records (slots (words (bytes-at at 1024 i)))))
-    ∙ ap (put-all []) (sym (gathered-next i places k l)) in
-    subst (Holds xs′ ys′ h′) e (become (put-all [] J) (settings-rising J) holds)
+  -- the records of so many slots that no other has one
+  pub gather-more : (n : ℕ) {xs ys xs′ ys′ : List ℕ} {h h′ : ℕ}
+      → records (take n (slots-in fm (getD line k 0) i)) ≡ records (slots-in fm (getD line k 0) i)
+      → Holds xs ys h (put-all [] (gathered fm i (take k line)))
+      → Become (λ t. put-all t (records (take n (slots-in fm (getD line k 0) i)))) xs ys h xs′ ys′ h′
+      → Holds xs′ ys′ h′ (put-all [] (gathered fm i (take (k + 1) line)))
+  gather-more n {xs} {ys} {xs′} {ys′} {h} {h′} all holds become =
+      let before = gathered fm i (take k line) in
+      let e = ap (put-all (put-all [] before)) all ∙ sym (put-all-append [] before (records (slots-in fm (getD line k 0) i)))
+      ∙ ap (put-all []) (sym gathered-next) in
+      subst (Holds xs′ ys′ h′) e (become (put-all [] before) (settings-rising before) holds)
 
--- ---- the places are those of the used pages, oldest first
+-- ---- the line is that of the used pages, oldest first
 
-unfoldable AllBelow : ℕ → List ℕ → Type 0
-AllBelow m [] = Unit {0}
-AllBelow m (k ∷ ks) = (k < m) × AllBelow m ks
+module _ (fm : Form) (i : List ℕ) where
+  one-page : (k : ℕ) → k < page-count fm i → all-records (take 1 (drop k (pages fm i))) ≡ records (slots-in fm k i)
+  unfolding at-places all-records
+  one-page k l =
+      let nothing = page (fm .edition) [] in
+      let here : take 1 (drop k (pages fm i)) ≡ getD (pages fm i) k nothing ∷ [] =
+      sym (append-nil (take 1 (drop k (pages fm i)))) ∙ at-place (pages fm i) k nothing (omega (arith, pages-long fm i)) in
+      ap all-records here ∙ append-nil (records (getD (pages fm i) k nothing .slots)) ∙ ap records (page-slots fm k i l)
 
-all-below : (m : ℕ) (ks : List ℕ) → ((k : ℕ) → k < length ks → getD ks k 0 < m) → AllBelow m ks
-unfolding AllBelow
-all-below m [] h = tt
-all-below m (x ∷ ks) h = (h 0 (omega arith), all-below m ks (λ k l. h (suc k) (omega arith)))
+  gathered-pages : (ks : List ℕ) → ((k : ℕ) → k < length ks → getD ks k 0 < page-count fm i) → all-records (at-places (pages fm i) ks) ≡ gathered fm i ks
+  unfolding gathered at-places all-records
+  gathered-pages [] h = refl
+  gathered-pages (k ∷ ks) h =
+      all-records-append (take 1 (drop k (pages fm i))) (at-places (pages fm i) ks)
+      ∙ ap₂ (λ (xs ys : List Setting). xs ++ ys) (one-page k (h 0 (omega arith))) (gathered-pages ks (λ j l. h (suc j) (omega arith)))
 
-one-page : (i : List ℕ) (k : ℕ) → k < length (pages i) → all-records (take 1 (drop k (pages i))) ≡ records (slots (words (bytes-at (k * 1024) 1024 i)))
-unfolding at-places all-records pages page
-one-page i k l =
-    let in-cut : k < page-count i = (let e = length-map (cut page-size (page-count i) i) (page page-edition) in let n = cut-length page-size (page-count i) i in omega arith) in
-    let here : take 1 (drop k (pages i)) ≡ getD (pages i) k (page page-edition []) ∷ [] = sym (append-nil (take 1 (drop k (pages i)))) ∙ at-place (pages i) k (page page-edition []) l in
-    ap all-records here ∙ append-nil (records (getD (pages i) k (page page-edition []) .slots))
-    ∙ ap (λ (p : Page). records (p .slots)) (List·getD-map (page page-edition) (cut page-size (page-count i) i) k [] ∙ ap (page page-edition) (cut-page page-size (page-count i) k i in-cut))
-
-gathered-pages : (i : List ℕ) (ks : List ℕ) → AllBelow (length (pages i)) ks → all-records (at-places (pages i) ks) ≡ gathered i ks
-unfolding AllBelow gathered at-places all-records
-gathered-pages i [] h = refl
-gathered-pages i (k ∷ ks) h =
-    all-records-append (take 1 (drop k (pages i))) (at-places (pages i) ks)
-    ∙ ap₂ (λ (xs ys : List Setting). xs ++ ys) (one-page i k (h .0)) (gathered-pages i ks (h .1))
-
-pub gathered-journal : (i places : List ℕ) (n : ℕ) → n ≤ length places → Lists (base (states (pages i))) (pages i) n places → gathered i (take n places) ≡ journal (pages i)
-unfolding journal
-gathered-journal i places n l h =
-    let long : length (take n places) ≡ n = length-take-le n places l in
-    let below = all-below (length (pages i)) (take n places) (λ k g. rw (getD-take n places k 0 (omega arith)) (h .within k (omega arith))) in
-    sym (gathered-pages i (take n places) below) ∙ ap all-records (h .pages)
-
-pub gathered-settings : (i places : List ℕ) (n : ℕ) → n ≤ length places → Lists (base (states (pages i))) (pages i) n places → put-all [] (gathered i (take n places)) ≡ settings (pages i)
-unfolding settings
-gathered-settings i places n l h = ap (put-all []) (gathered-journal i places n l h)
+  pub gathered-settings : (line : List ℕ) (n : ℕ) → n ≤ length line → Lines fm i n line → put-all [] (gathered fm i (take n line)) ≡ settings (pages fm i)
+  unfolding settings journal
+  gathered-settings line n l h =
+      let long : length (take n line) ≡ n = length-take-le n line l in
+      let inside : (k : ℕ) → k < length (take n line) → getD (take n line) k 0 < page-count fm i =
+      λ k g. rw (getD-take n line k 0 (omega arith)) (h .within k (omega arith)) in
+      ap (put-all []) (sym (gathered-pages (take n line) inside) ∙ ap all-records (h .used))

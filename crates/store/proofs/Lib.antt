@@ -1,4 +1,4 @@
--- Laws of the code's own, for its proofs and for the crates above.
-pub mod Looking
-pub mod Gathering
-pub mod Opening
+-- Laws of the code's own; `Values` is what callers cite.
+mod Gathering
+mod Opening
+pub mod Values

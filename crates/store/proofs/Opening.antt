@@ -1,65 +1,62 @@
--- From the look at the pages to the settings. Assumes nothing.
-use Prim.Native.Nat.{ℕ, zero, suc, _+_, _*_, _≤_, _<_}
-use mathlib.Core.Path.{_≡_, refl, sym, ap, _∙_, subst}
-use mathlib.Core.Bool.{Bool, true, false}
-use mathlib.Core.List.{List, [], _∷_, _++_}
-use native.Mathlib.Omega.{arith}
-use lib.ListN.{length, getD, take, drop, length-append, length-map}
-use lib.Dec.{ltb}
-use borrow.Author.Tests.{lt-ltb, le-ltb, ltb-true, ltb-false}
-use Rattle.rules.specs.Page.{page}
-use Rattle.rules.specs.Store.{states, base, used, settings, held}
-use Rattle.rules.specs.Call.{page-size, page-edition, page-count, cut, pages, wrong-size, held-limit}
+-- From the look at the pages and the settings to the answer. Assumes nothing.
+use Prim.Native.Nat.{ℕ}
+use mathlib.Core.Path.{_≡_, refl, sym, _∙_}
+use mathlib.Core.Bool.{Bool, true, false, cond, _||_}
+use mathlib.Core.List.{List}
+use lib.Dec.{eqb, ltb}
+use lib.ListN.{length}
+use borrow.Author.Tests.{eqb-true, eqb-false, lt-ltb, le-ltb, ltb-true, ltb-false}
+use Rattle.rules.specs.Page.{Form}
+use Rattle.rules.specs.Store.{states, base, used-orders, settings, held}
+use Rattle.rules.specs.Call.{first-of, store-rows, pages, wrong-size, no-store, repeats, all-used, damaged, store-number, then, held-limit, OK, SIZE}
+use Rattle.rules.specs.Call.{NO-STORE, DAMAGED}
 use Rattle.rules.proofs.Truth.{by-cases}
-use Rattle.rules.proofs.Cut.{cut-length}
-use Rattle.rules.proofs.Stores.{length-states, count-all}
-use Rattle.rules.proofs.Ready.{right-sizes}
-use Rattle.ranks.specs.Places.{line}
-use Rattle.ranks.proofs.Meaning.{Lists, lists, length-line}
+use Rattle.rules.proofs.Answers.{then-refused}
+use Rattle.survey.specs.Look.{pages-rows, pages-number}
 use Rattle.settings.specs.Held.{Holds}
 use Rattle.settings.proofs.Tables.{held-few, held-many}
-use Rattle.store.specs.declared.Look.{Look}
-use Rattle.store.specs.Look.{Looks}
-use Rattle.store.proofs.Looking.{pages-sized, pages-apart}
+use Rattle.store.specs.Opened.{with-held}
 
-pub pages-long : (i : List ℕ) → length (pages i) ≡ page-count i
-unfolding pages
-pages-long i = length-map (cut page-size (page-count i) i) (page page-edition) ∙ cut-length page-size (page-count i) i
+-- the last part of DAMAGED is tested behind the others
+held-last : (w s x y z : Bool)
+    → then (cond w SIZE (cond s NO-STORE (cond (x || y) DAMAGED OK))) (cond z DAMAGED OK) ≡ cond w SIZE (cond s NO-STORE (cond (x || (y || z)) DAMAGED OK))
+unfolding then
+held-last true s x y z = refl
+held-last false true x y z = refl
+held-last false false true y z = refl
+held-last false false false true z = refl
+held-last false false false false z = refl
 
-module _ (i : List ℕ) (look : Look) (h : Looks i look) (ok : look .number ≡ 0) where
-  sized : wrong-size i ≡ false
-  sized = pages-sized i (sym (h .number) ∙ ok)
+module _ (fm : Form) (i : List ℕ) where
+  abbrev too-many : Bool
+  too-many = ltb held-limit (held (pages fm i))
 
-  pub used-few : look .used ≤ 32
-  used-few =
-      let all = count-all (base (states (pages i))) (states (pages i)) in
-      let u = h .used sized in
-      let l = length-states (pages i) ∙ pages-long i in
-      let m = right-sizes i sized .most in
-      omega arith
+  pages-then-held : then (pages-number fm i) (cond too-many DAMAGED OK) ≡ store-number fm i
+  unfolding pages-number pages-rows store-number store-rows first-of damaged
+  pages-then-held =
+      let ss = states (pages fm i) in
+      held-last (wrong-size fm i) (no-store (pages fm i)) (repeats (used-orders (base ss) ss)) (all-used ss) too-many
 
-  pub listed : (before after : List ℕ) → after ≡ line (take 32 (look .ranks)) 4194305 (look .used) ++ drop (look .used) before → Lists (base (states (pages i))) (pages i) (look .used) after
-  listed before after e =
-      let m = right-sizes i sized .most in
-      let l = pages-long i in
-      lists (base (states (pages i))) 4194305 (look .used) (pages i) (look .ranks) before after (omega arith) (pages-apart i (sym (h .number) ∙ ok)) (h .ranks sized) (h .fits sized) (h .used sized) e
+  pages-refused : (number next : ℕ) → number ≡ pages-number fm i → (number ≡ 0 → ⊥) → then number next ≡ store-number fm i
+  pages-refused number next e ne =
+      then-refused number next ne ∙ e ∙ sym (then-refused (pages-number fm i) (cond too-many DAMAGED OK) (λ q. ne (e ∙ q))) ∙ pages-then-held
 
-  pub places-within : (places : List ℕ) → Lists (base (states (pages i))) (pages i) (look .used) places → (k : ℕ) → k < look .used → getD places k 0 * 1024 + 1024 ≤ length i
-  places-within places ls k l =
-      let w = ls .within k l in
-      let p = pages-long i in
-      let s = right-sizes i sized .sized in
-      omega arith
+  pub with-held-is : (number h : ℕ) → number ≡ pages-number fm i → (number ≡ 0 → ltb held-limit h ≡ too-many) → with-held number h ≡ store-number fm i
+  unfolding with-held
+  with-held-is number h e same =
+      by-cases (eqb number 0) (λ z. rw (same (eqb-true number 0 z), e) pages-then-held)
+      (λ z. pages-refused number (cond (ltb held-limit h) DAMAGED OK) e (eqb-false number 0 z))
 
-pub places-long : (rs : List ℕ) (m n : ℕ) (before after : List ℕ) → after ≡ line rs m n ++ drop n before → n ≤ length after
-places-long rs m n before after e =
-    let a = ap length e ∙ length-append (line rs m n) (drop n before) in
-    let b = length-line rs m n in
-    omega arith
+  -- a store that is accepted has pages that are
+  pub pages-ok : (number : ℕ) → number ≡ pages-number fm i → store-number fm i ≡ 0 → number ≡ 0
+  pages-ok number e ok =
+      by-cases (eqb number 0) (λ z. eqb-true number 0 z)
+      (λ z. let ne = eqb-false number 0 z in sym (then-refused number OK ne) ∙ pages-refused number OK e ne ∙ ok)
 
--- the settings, told whether they are too many
-pub over-held : (i : List ℕ) (xs ys : List ℕ) (h : ℕ) → Holds xs ys h (settings (pages i)) → ltb held-limit h ≡ ltb held-limit (held (pages i))
-unfolding held
-over-held i xs ys h holds =
-    by-cases (ltb held-limit h) (λ t. t ∙ sym (lt-ltb held-limit (length (settings (pages i))) (held-many holds (ltb-true held-limit h t))))
-    (λ t. t ∙ sym (le-ltb held-limit (length (settings (pages i))) (held-few holds (ltb-false held-limit h t))))
+  -- the settings tell whether they are too many
+  pub over-held : (xs ys : List ℕ) (h : ℕ) → Holds xs ys h (settings (pages fm i)) → ltb held-limit h ≡ too-many
+  unfolding held
+  over-held xs ys h holds =
+      let n = length (settings (pages fm i)) in
+      by-cases (ltb held-limit h) (λ t. t ∙ sym (lt-ltb held-limit n (held-many holds (ltb-true held-limit h t))))
+      (λ t. t ∙ sym (le-ltb held-limit n (held-few holds (ltb-false held-limit h t))))

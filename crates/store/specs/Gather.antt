@@ -1,12 +1,22 @@
--- The records of pages, by the pages' places.
-use Prim.Native.Nat.{ℕ, _*_}
+-- The records of the used pages, by their places in the line.
+use Prim.Native.Nat.{ℕ, _+_, _*_, _≤_, _<_}
+use mathlib.Core.Path.{_≡_}
 use mathlib.Core.List.{List, [], _∷_, _++_}
-use Rattle.rules.specs.Flash.{bytes-at}
-use Rattle.rules.specs.Word.{words}
-use Rattle.rules.specs.Page.{slots}
-use Rattle.rules.specs.Store.{Setting, records}
+use lib.ListN.{length, getD}
+use Rattle.rules.specs.Page.{Form, size}
+use Rattle.rules.specs.Store.{Setting, records, free-slot}
+use Rattle.survey.specs.States.{slots-in}
 
 -- the records of the pages at those places of an image, one page after the other
-unfoldable pub gathered : List ℕ → (places : List ℕ) → List Setting
-gathered i [] = []
-gathered i (k ∷ ks) = records (slots (words (bytes-at (k * 1024) 1024 i))) ++ gathered i ks
+unfoldable pub gathered : (form : Form) → List ℕ → (places : List ℕ) → List Setting
+gathered f i [] = []
+gathered f i (k ∷ ks) = records (slots-in f k i) ++ gathered f i ks
+
+-- the first `used` of the places are those of pages of the image, and `free` is the free slot of the last one
+pub record Passes (fm : Form) (i line : List ℕ) (used free : ℕ) : Type 0 where
+  pub few : used ≤ 32
+  pub long : used ≤ length line
+  pub room : 0 < used → free ≤ fm .slot-count
+  pub places : (k : ℕ) → k < used → getD line k 0 < 32
+  pub within : (k : ℕ) → k < used → getD line k 0 * size fm + size fm ≤ length i
+  pub last : (k : ℕ) → k + 1 ≡ used → free ≡ free-slot (slots-in fm (getD line k 0) i)

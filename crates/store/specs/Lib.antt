@@ -1,3 +1,3 @@
-pub mod Look
+-- Definitions that the contracts of this crate cite.
 pub mod Gather
 pub mod Opened

@@ -1,20 +1,30 @@
 -- What a call knows of an image when it has looked at it once.
 use Prim.Native.Nat.{ℕ}
 use mathlib.Core.Path.{_≡_}
-use mathlib.Core.List.{List}
-use Rattle.rules.specs.Store.{settings}
 use mathlib.Core.Bool.{cond}
+use mathlib.Core.List.{List}
 use lib.Dec.{ltb}
+use Rattle.rules.specs.Page.{Form}
+use Rattle.rules.specs.Store.{settings}
 use Rattle.rules.specs.Call.{pages, store-number, then, held-limit, DAMAGED, OK}
 use Rattle.settings.specs.Held.{Holds}
+use Rattle.survey.specs.Look.{Told}
 use Rattle.store.specs.declared.Store.{Store}
-use Rattle.store.specs.Look.{Looks}
 
 -- the answer 0 to 3, from that of the pages and the number held
 unfoldable pub with-held : (number held : ℕ) → ℕ
 with-held number held = then number (cond (ltb held-limit held) DAMAGED OK)
 
-pub record Opens (i : List ℕ) (r : Store) : Type 0 where
-  pub number : r .number ≡ store-number i
-  pub look : Looks i (r .look)
-  pub settings : r .number ≡ 0 → Holds (r .settings .addresses) (r .settings .values) (r .settings .held) (Rattle.rules.specs.Store.settings (pages i))
+-- what is known of an image that is not refused: the pages, and the settings, which the table has
+pub record Holding (fm : Form) (i : List ℕ) (r : Store) (xs ys : List ℕ) : Type 0 where
+  pub told : Told fm i (r .look)
+  pub holds : Holds xs ys (r .held) (settings (pages fm i))
+
+pub record Opens (fm : Form) (i : List ℕ) (r : Store) (xs ys : List ℕ) : Type 0 where
+  pub number : r .number ≡ store-number fm i
+  pub holding : r .number ≡ 0 → Holding fm i r xs ys
+
+-- a store and a table that were opened from some image
+pub record Opened (fm : Form) (r : Store) (xs ys : List ℕ) : Type 0 where
+  pub image : List ℕ
+  pub opens : Opens fm image r xs ys

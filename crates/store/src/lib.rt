@@ -1,132 +1,107 @@
 // The store in an image: the one look that serves a call, at the headers of all pages and at the slots of the used ones.
-use settings::Settings;
+use pages::Form;
+use settings::HELD_MAX;
+use survey::DAMAGED;
+use survey::HEADER_SIZE;
+use survey::Look;
+use survey::OK;
+use survey::PAGES_MAX;
 ghost use mathlib.Core.Path.{_≡_};
 ghost use mathlib.Core.List.{[]};
-ghost use Prim.Native.Nat.{ℕ, _+_, _*_, _≤_, _<_};
-ghost use lib.ListN.{length, getD, take};
-ghost use Rattle.rules.specs.Store.{put-all, settings};
-ghost use Rattle.rules.specs.Call.{pages};
-ghost use Rattle.ranks.specs.Places.{doubled};
-ghost use Rattle.settings.specs.Held.{Holds};
-ghost use Rattle.store.specs.Look.{counted-number, Looks};
-ghost use Rattle.store.specs.Gather.{gathered};
+ghost use Prim.Native.Nat.{_+_, _*_, _≤_};
+ghost use lib.ListN.{length, take};
+ghost use Rattle.rules.specs.Store.{put-all, records};
+ghost use Rattle.rules.specs.Page.{size};
+ghost use Rattle.pages.specs.Read.{as-form, Lawful};
+ghost use Rattle.survey.specs.States.{slots-in};
+ghost use Rattle.settings.specs.Held.{Holds, Become};
+ghost use Rattle.store.specs.Gather.{gathered, Passes};
 ghost use Rattle.store.specs.Opened.{with-held, Opens};
 
-// What is told of the pages: `ranks` has the order + 1 of a used page, `spares` the wear + 1 of a cleared one, each 0 of any
-// other page. `number` is the answer 0 to 3 that follows from the pages alone.
-pub struct Look {
-    pub number: u8,
-    pub count: usize,
-    pub used: usize,
-    pub ranks: [u32; 32],
-    pub spares: [u32; 32],
+// The records of the first n slots of a page put in, the first slot first. The number held then.
+fn put_page(
+    image: &[u8],
+    form: Form,
+    page: usize,
+    n: usize,
+    addresses: &mut [u16; HELD_MAX],
+    values: &mut [u8; HELD_MAX],
+    held: usize,
+) -> usize
+    requires { ⌜ Lawful form × (page ≤ 32) × (n ≤ form .slots) × (page * size (as-form form) + size (as-form form) ≤ length (now image)) ⌝ }
+    ensures { λ r. ⌜ Become (λ t. put-all t (records (take n (slots-in (as-form form) page (now (image .entry)))))) (now (addresses .entry)) (now (values .entry)) held (now (addresses .exit)) (now (values .exit)) r ⌝ }
+{
+    let at = form.start(page) + HEADER_SIZE;
+    let end = at + n * 4;
+    settings::put_slots(&image[at..end], addresses, values, held)
 }
 
-// SIZE: no pages. NO STORE: no used page. DAMAGED: every page used, or two used pages of one order.
-fn pages_number(count: usize, used: usize, ranks: &[u32; 32]) -> u8
-    ensures { λ r. ⌜ r ≡ counted-number count used (doubled (take 32 (now (ranks .entry)))) ⌝ }
+// The records of the used pages put into an empty table, one page after the other, the oldest first. Those of the last page, the
+// active one, are all before its free slot. The number held then.
+fn gather(
+    image: &[u8],
+    form: Form,
+    line: &[u8; PAGES_MAX],
+    used: usize,
+    free: usize,
+    addresses: &mut [u16; HELD_MAX],
+    values: &mut [u8; HELD_MAX],
+) -> usize
+    requires { ⌜ Lawful form ⌝ }
+    requires { ⌜ Passes (as-form form) (now image) (now line) used free ⌝ }
+    requires { ⌜ Holds (now addresses) (now values) 0 [] ⌝ }
+    ensures { λ r. ⌜ Holds (now (addresses .exit)) (now (values .exit)) r (put-all [] (gathered (as-form form) (now (image .entry)) (take used (now (line .entry))))) ⌝ }
 {
-    if count == 0 {
-        return 1;
-    }
-    if used == 0 {
-        return 2;
-    }
-    if used == count {
-        return 3;
-    }
-    if ranks::repeats(ranks) {
-        return 3;
-    }
-    0
-}
-
-// The look at the pages of an image of any length.
-pub fn look_at(image: &[u8]) -> Look
-    ensures { λ r. ⌜ Looks (now (image .entry)) r ⌝ }
-{
-    let n = survey::page_count(image);
-    let states = survey::states_of(image, n);
-    let ranks = survey::ranks_of(states, survey::base_of(states));
-    let spares = survey::spares_of(states);
-    let used = ranks::count(&ranks);
-    Look {
-        number: pages_number(n, used, &ranks),
-        count: n,
-        used,
-        ranks,
-        spares,
-    }
-}
-
-// The records of the pages at the first `used` of the places, put in one page after the other, the first slot first.
-fn gather(image: &[u8], places: &[usize; 32], used: usize) -> Settings
-    requires { ⌜ (used ≤ 32) × (used ≤ length (now places)) ⌝ }
-    requires { ⌜ ((k : ℕ) → k < used → getD (now places) k 0 * 1024 + 1024 ≤ length (now image)) ⌝ }
-    ensures { λ r. ⌜ Holds (r .addresses) (r .values) (r .held) (put-all [] (gathered (now (image .entry)) (take used (now (places .entry))))) ⌝ }
-{
-    let mut addresses = [65535u16; 192];
-    let mut values = [255u8; 192];
     let mut held = 0;
     let mut k = 0;
     while k < used {
-        let at = places[k] * 1024;
-        let slots = at + 12;
-        let end = at + 1024;
-        held = settings::put_slots(&image[slots..end], &mut addresses, &mut values, held);
+        let mut n = form.slots;
+        if k + 1 == used {
+            n = free;
+        }
+        held = put_page(image, form, line[k] as usize, n, addresses, values, held);
         k += 1;
     }
-    Settings {
-        addresses,
-        values,
-        held,
-    }
-}
-
-// The settings of an image whose pages give no refusal; none of one whose pages do.
-fn settings_of(image: &[u8], look: Look) -> Settings
-    requires { ⌜ Looks (now image) look ⌝ }
-    ensures { λ r. ⌜ (look .number ≡ 0 → Holds (r .addresses) (r .values) (r .held) (settings (pages (now (image .entry))))) ⌝ }
-{
-    let ranks = look.ranks;
-    let mut used = look.used;
-    if look.number != 0 {
-        used = 0;
-    }
-    let mut places = [0usize; 32];
-    ranks::list(&ranks, 4194305, used, &mut places);
-    gather(image, &places, used)
+    held
 }
 
 // The answer 0 to 3 of the pages and of the number held.
 fn number_of(number: u8, held: usize) -> u8
     ensures { λ r. ⌜ r ≡ with-held number held ⌝ }
 {
-    if number != 0 {
+    if number != OK {
         return number;
     }
-    if 192 < held {
-        return 3;
+    if HELD_MAX < held {
+        return DAMAGED;
     }
-    0
+    OK
 }
 
-// The answer 0 to 3, the pages, and, if the answer is 0, the settings.
+// The answer 0 to 3, how many addresses are held, and the look at the pages.
 pub struct Store {
     pub number: u8,
+    pub held: usize,
     pub look: Look,
-    pub settings: Settings,
 }
 
-// The one look at an image that serves a call.
-pub fn open(image: &[u8]) -> Store
-    ensures { λ r. ⌜ Opens (now (image .entry)) r ⌝ }
+// The one look at an image that serves a call. The table that is lent, which is empty, has the settings then, if the answer is 0.
+pub fn open(
+    image: &[u8],
+    form: Form,
+    addresses: &mut [u16; HELD_MAX],
+    values: &mut [u8; HELD_MAX],
+) -> Store
+    requires { ⌜ Lawful form ⌝ }
+    requires { ⌜ Holds (now addresses) (now values) 0 [] ⌝ }
+    ensures { λ r. ⌜ Opens (as-form form) (now (image .entry)) r (now (addresses .exit)) (now (values .exit)) ⌝ }
 {
-    let look = look_at(image);
-    let settings = settings_of(image, look);
+    let look = survey::look_at(image, form);
+    let line = look.line;
+    let held = gather(image, form, &line, look.used, look.free, addresses, values);
     Store {
-        number: number_of(look.number, settings.held),
+        number: number_of(look.number, held),
+        held,
         look,
-        settings,
     }
 }

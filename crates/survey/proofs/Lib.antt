@@ -1,7 +1,14 @@
 -- Laws of the code's own, for its proofs and for the crates above.
 pub mod Sizes
-pub mod Places
-pub mod Kept
-pub mod Coded
-pub mod Choosing
-pub mod Picks
+pub mod Arrays
+mod States
+mod Padded
+pub mod Ranks
+pub mod Counts
+mod Greatest
+mod Loops
+mod Active
+mod Young
+pub mod Line
+pub mod Slots
+pub mod Looking

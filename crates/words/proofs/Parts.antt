@@ -1,17 +1,15 @@
 -- The words of a list of bytes, one by one: the rules cut them all at once, the code reads one at its offset. Assumes nothing.
-use Prim.Native.Nat.{ℕ, zero, suc, _+_, _*_, _/_, _≤_, _<_}
-use mathlib.Core.Path.{_≡_, refl, ap, _∙_}
+use Prim.Native.Nat.{ℕ, zero, suc, _+_, _*_, _/_, _≤_}
+use mathlib.Core.Path.{_≡_, refl}
 use mathlib.Core.List.{List, [], _∷_}
 use native.Mathlib.Omega.{arith}
 use native.Mathlib.Nat.{add-assoc}
-use lib.ListN.{length, getD, take, drop}
-use lib.Seq.{getD-take, getD-drop}
-use Rattle.rules.specs.Word.{word, words}
+use lib.ListN.{length, getD, drop}
+use lib.Seq.{getD-drop}
+use Rattle.rules.specs.Word.{words}
 use Rattle.rules.specs.Page.{blank-word}
+use Rattle.rules.proofs.Cut.{next-words}
 use Rattle.words.specs.Read.{word-in}
-
-four : (k : ℕ) → 4 * suc k ≡ suc (suc (suc (suc (4 * k))))
-four k = omega arith
 
 -- the word at an offset, past the first four bytes
 past : (a b c d : ℕ) (s : List ℕ) (n : ℕ) → word-in (a ∷ b ∷ c ∷ d ∷ s) (suc (suc (suc (suc n)))) ≡ word-in s n
@@ -30,7 +28,7 @@ word-of (a ∷ []) k h = absurd (omega arith)
 word-of (a ∷ b ∷ []) k h = absurd (omega arith)
 word-of (a ∷ b ∷ c ∷ []) k h = absurd (omega arith)
 word-of (a ∷ b ∷ c ∷ d ∷ s) zero h = refl
-word-of (a ∷ b ∷ c ∷ d ∷ s) (suc k) h = rw (four k, past a b c d s (4 * k)) (word-of s k (omega arith))
+word-of (a ∷ b ∷ c ∷ d ∷ s) (suc k) h = rw (next-words k, past a b c d s (4 * k)) (word-of s k (omega arith))
 
 -- the word at an offset of a part is the one at both offsets of the whole
 pub word-in-drop : (o at : ℕ) (s : List ℕ) → word-in (drop o s) at ≡ word-in s (o + at)
@@ -50,8 +48,8 @@ length-words (a ∷ b ∷ c ∷ d ∷ s) = let e = length-words s in omega arith
 pub drop-words : (k : ℕ) (s : List ℕ) → words (drop (4 * k) s) ≡ drop k (words s)
 unfolding words
 drop-words zero s = refl
-drop-words (suc k) [] = rw (four k)
-drop-words (suc k) (a ∷ []) = rw (four k)
-drop-words (suc k) (a ∷ b ∷ []) = rw (four k)
-drop-words (suc k) (a ∷ b ∷ c ∷ []) = rw (four k)
-drop-words (suc k) (a ∷ b ∷ c ∷ d ∷ s) = rw (four k) (drop-words k s)
+drop-words (suc k) [] = rw (next-words k)
+drop-words (suc k) (a ∷ []) = rw (next-words k)
+drop-words (suc k) (a ∷ b ∷ []) = rw (next-words k)
+drop-words (suc k) (a ∷ b ∷ c ∷ []) = rw (next-words k)
+drop-words (suc k) (a ∷ b ∷ c ∷ d ∷ s) = rw (next-words k) (drop-words k s)

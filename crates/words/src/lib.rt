@@ -1,4 +1,4 @@
-// Words of four bytes: the check, the makers and the readers of 01, "Words".
+// Words of four bytes: the check, the makers and the readers (section W).
 ghost use mathlib.Core.Path.{_≡_};
 ghost use Prim.Native.Nat.{_+_, _≤_, _<_};
 ghost use lib.ListN.{length};

@@ -1,14 +1,15 @@
 -- Format, in the terms of the code. Assumes nothing.
-use Prim.Native.Nat.{ℕ, _≤_}
-use mathlib.Core.Path.{_≡_, refl, sym, ap, _∙_, subst}
+use Prim.Native.Nat.{ℕ}
+use mathlib.Core.Path.{_≡_, refl, sym, ap, _∙_}
 use mathlib.Core.Bool.{true, false}
-use mathlib.Core.List.{List, [], _∷_, _++_}
-use lib.ListN.{length, take}
-use Rattle.rules.specs.Flash.{Step, run}
+use mathlib.Core.List.{List}
+use lib.ListN.{take}
+use Rattle.rules.specs.Flash.{Step, AllAllowed, run}
+use Rattle.rules.specs.Page.{Form, size}
 use Rattle.rules.specs.Word.{Word, word, opening-word, word-steps}
 use Rattle.rules.specs.Steps.{renew-all, format-steps}
 use Rattle.rules.specs.Call.{page-count, wrong-size, Formatted, format}
-use Rattle.rules.proofs.Plans.{AllAllowed, allowed-split, run-append}
+use Rattle.rules.proofs.Plans.{allowed-split, run-append}
 use Rattle.rules.proofs.Ready.{format-allowed}
 use Rattle.rules.proofs.Answers.{format-refused, format-done}
 
@@ -16,23 +17,27 @@ two-steps : (p k : ℕ) (w : Word) → take 2 (word-steps p k w) ≡ word-steps 
 unfolding word-steps
 two-steps p k (word a b c d) = refl
 
-module _ (i j : List ℕ) (n : ℕ) (w : Word) (sized : wrong-size i ≡ false) (counted : n ≡ page-count i) (renewed : j ≡ run 1024 (renew-all 1 0 n) i) (made : w ≡ opening-word 1 0) where
-  at-opening : j ≡ run 1024 (renew-all 1 0 (page-count i)) i
-  at-opening = renewed ∙ ap (λ (m : ℕ). run 1024 (renew-all 1 0 m) i) counted
+module _ (fm : Form) (i j : List ℕ) (n : ℕ) (w : Word) (sized : wrong-size fm i ≡ false) (counted : n ≡ page-count fm i)
+    (renewed : j ≡ run (size fm) (renew-all (fm .edition) 0 n) i) (made : w ≡ opening-word 1 0) where
+  at-opening : j ≡ run (size fm) (renew-all (fm .edition) 0 (page-count fm i)) i
+  at-opening = renewed ∙ ap (λ (m : ℕ). run (size fm) (renew-all (fm .edition) 0 m) i) counted
 
-  pub opening-ready : AllAllowed 1024 (take 2 (word-steps 0 1 w)) j
+  pub opening-ready : AllAllowed (size fm) (take 2 (word-steps 0 1 w)) j
   unfolding format-steps
   opening-ready =
-      rw (two-steps 0 1 w, made, at-opening) (allowed-split 1024 (renew-all 1 0 (page-count i)) (word-steps 0 1 (opening-word 1 0)) i (format-allowed i sized) .1)
+      rw (two-steps 0 1 w, made, at-opening)
+      (allowed-split (size fm) (renew-all (fm .edition) 0 (page-count fm i)) (word-steps 0 1 (opening-word 1 0)) i (format-allowed fm i sized) .1)
 
-  pub formatted : (l : List ℕ) → l ≡ run 1024 (take 2 (word-steps 0 1 w)) j → (0 ≡ format i .number) × (l ≡ format i .image)
+  pub formatted : (l : List ℕ) → l ≡ run (size fm) (take 2 (word-steps 0 1 w)) j → (0 ≡ format fm i .number) × (l ≡ format fm i .image)
   unfolding format-steps
   formatted l e =
-      let f = format-done i sized in (
+      let f = format-done fm i sized in (
         sym (ap (λ (r : Formatted). r .number) f),
-        e ∙ ap (λ (ss : List Step). run 1024 ss j) (two-steps 0 1 w) ∙ ap (λ (x : Word). run 1024 (word-steps 0 1 x) j) made ∙ ap (run 1024 (word-steps 0 1 (opening-word 1 0))) at-opening
-            ∙ sym (run-append 1024 (renew-all 1 0 (page-count i)) (word-steps 0 1 (opening-word 1 0)) i) ∙ sym (ap (λ (r : Formatted). r .image) f),
+        e ∙ ap (λ (ss : List Step). run (size fm) ss j) (two-steps 0 1 w) ∙ ap (λ (x : Word). run (size fm) (word-steps 0 1 x) j) made
+            ∙ ap (run (size fm) (word-steps 0 1 (opening-word 1 0))) at-opening
+            ∙ sym (run-append (size fm) (renew-all (fm .edition) 0 (page-count fm i)) (word-steps 0 1 (opening-word 1 0)) i)
+            ∙ sym (ap (λ (r : Formatted). r .image) f),
       )
 
-pub not-formatted : (i : List ℕ) → wrong-size i ≡ true → (1 ≡ format i .number) × (i ≡ format i .image)
-not-formatted i w = let f = format-refused i w in (sym (ap (λ (r : Formatted). r .number) f), sym (ap (λ (r : Formatted). r .image) f))
+pub not-formatted : (fm : Form) (i : List ℕ) → wrong-size fm i ≡ true → (1 ≡ format fm i .number) × (i ≡ format fm i .image)
+not-formatted fm i w = let f = format-refused fm i w in (sym (ap (λ (r : Formatted). r .number) f), sym (ap (λ (r : Formatted). r .image) f))

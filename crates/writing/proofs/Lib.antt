@@ -1,5 +1,7 @@
-pub mod Formatting
-pub mod Recovering
-pub mod Parts
-pub mod Moving
+-- Laws of the code's own, for its proofs; `Ways` has one that the library's demands cite.
+mod Formatting
+mod Picks
+mod Parts
+mod Recovering
+mod Moving
 pub mod Ways

@@ -1,245 +1,208 @@
--- What each way of a write means: the number, the steps, and that they may be done. Assumes nothing.
-use Prim.Native.Nat.{ℕ, zero, suc, _+_, _-_, _*_, _≤_, _<_, min}
-use mathlib.Core.Path.{_≡_, refl, sym, ap, _∙_, subst}
-use mathlib.Core.Bool.{Bool, true, false, cond, not}
-use mathlib.Core.List.{List, [], _∷_, _++_}
+-- What each way of a write asks and does: its steps are the rules', they may be done, and the answer says so. Assumes nothing.
+use Prim.Native.Nat.{ℕ, _-_, _*_, _≤_, _<_, min}
+use mathlib.Core.Path.{_≡_, refl, sym, _∙_, subst}
+use mathlib.Core.Bool.{false}
+use mathlib.Core.List.{List}
 use native.Mathlib.Omega.{arith}
-use lib.ListN.{length, take, length-append, length-take}
+use lib.ListN.{length, take, length-take}
 use lib.Seq.{take-nil}
 use lib.Dec.{eqb, leb}
 use borrow.Author.Tests.{eqb-true, eqb-false, leb-false}
-use Rattle.rules.specs.Flash.{Step, run}
-use Rattle.rules.specs.Word.{opening-word, done-word, record-word, word-steps}
-use Rattle.rules.specs.Page.{slot-place}
-use Rattle.rules.specs.Store.{Setting, setting, states, is-cleared, active-order, active-index, active-slots, count, settings, held, value, free-slot}
-use Rattle.rules.specs.Steps.{way, way-steps, new-page, next-order, fill-steps, but, copies, copy-steps, append-steps, open-steps, move-steps, write-steps, taken, has-free-slot, is-value}
-use Rattle.rules.specs.Call.{page-edition, page-count, pages, store-number, write-number, is-unclean, is-held, no-room, wrong-address, then, write}
-use Rattle.rules.proofs.Rows.{write-fails}
+use Rattle.rules.specs.Flash.{run, AllAllowed}
+use Rattle.rules.specs.Page.{Form, size}
+use Rattle.rules.specs.Store.{Setting, states, is-cleared, count, settings, held, value, free-slot}
+use Rattle.rules.specs.Steps.{Way as Write, stay, append-to, open-at, move-to, way, way-steps, new-page, has-free-slot, is-value}
+use Rattle.rules.specs.Steps.{append-steps, open-steps, fill-steps, move-steps, copies, write-steps}
+use Rattle.rules.specs.Call.{Roomy, page-count, pages, store-number, write-number, accepted, wrong-address, write}
 use Rattle.rules.proofs.Truth.{by-cases}
-use Rattle.rules.proofs.Plans.{AllAllowed, allowed-take}
-use Rattle.rules.proofs.Settings.{by-option, but-length, but-length-held}
-use Rattle.rules.proofs.Held.{held-rising, held-few, value-is}
-use Rattle.rules.proofs.Ready.{size-right, right-sizes, append-allowed, open-allowed, move-allowed, taken-within}
+use Rattle.rules.proofs.Rows.{write-fails}
+use Rattle.rules.proofs.Plans.{allowed-take}
+use Rattle.rules.proofs.Held.{held-rising, held-few}
+use Rattle.rules.proofs.Ready.{size-right, right-sizes, taken-within}
+use Rattle.rules.proofs.Healthy.{accepted-healthy, write-allowed}
 use Rattle.rules.proofs.Answers.{stepped-refused, stepped-done}
 use Rattle.steps.specs.Copied.{copied}
-use Rattle.steps.proofs.Copies.{word-steps-length}
 use Rattle.store.specs.declared.Store.{Store}
 use Rattle.store.specs.Opened.{Opens}
 use Rattle.choosing.specs.declared.Way.{Way}
 use Rattle.choosing.specs.declared.Way.the-variants.{Refuse, Stay, Append, Open, Move}
-use Rattle.choosing.specs.Way.{way-for, Fitting}
+use Rattle.choosing.specs.Way.{as-way, way-for, Fitting, Chosen}
 use Rattle.writing.specs.declared.Stepped.{Stepped}
 use Rattle.writing.specs.Answers.{as-stepped}
-use Rattle.writing.specs.Plans.{Does, Tabled, opening-plan, filling-plan, moving-plan}
-use Rattle.writing.proofs.Recovering.{look-count, look-few}
-use Rattle.writing.proofs.Moving.{picked-others, copied-table, moving-long}
-use Rattle.writing.proofs.Parts.{opening-long}
+use Rattle.writing.specs.Plans.{Does, Tabled, pages-of}
+use Rattle.writing.proofs.Recovering.{look-few}
+use Rattle.writing.proofs.Moving.{copied-table}
+use Rattle.writing.proofs.Parts.{part-first}
 
--- ---- an accepted write passed each test
+-- ---- the rules' way of an accepted write may be done
 
-module _ (a v : ℕ) (i : List ℕ) (ok : write-number a v i ≡ 0) where
-  pub store-right : store-number i ≡ 0
-  store-right = write-fails i a v ok .stored
+module _ (fm : Form) (a v : ℕ) (i : List ℕ) where
+  -- a page that is moved to is one of the image's
+  unfoldable Inside : Write → Type 0
+  Inside stay = Unit {0}
+  Inside (append-to p k) = Unit {0}
+  Inside (open-at p o) = Unit {0}
+  Inside (move-to p o) = p < page-count fm i
 
-  pub none-unclean : is-unclean (states (pages i)) ≡ false
-  none-unclean = write-fails i a v ok .clean
-
-  pub address-right : a < 65535
-  unfolding wrong-address
-  address-right = leb-false 65535 a (write-fails i a v ok .address)
-
--- ---- the steps, by the way
-
--- the image has the steps that the way names, and they may be done
-module _ (a v : ℕ) (i : List ℕ) where
-  abbrev Accepted : List Step → Type 0
-  Accepted ss = (write-number a v i ≡ 0) × (write-steps page-edition a v (pages i) ≡ ss)
-
-  unfoldable pub Means : Way → Type 0
-  Means (Refuse n) = (write-number a v i ≡ n) × (n ≡ 0 → ⊥)
-  Means Stay = Accepted []
-  Means (Append p k) = Accepted (word-steps p k (record-word a v)) × AllAllowed 1024 (word-steps p k (record-word a v)) i
-  Means (Open p o) = Accepted (opening-plan p o a v) × AllAllowed 1024 (opening-plan p o a v) i
-  Means (Move p o) =
-      Accepted (moving-plan p o (page-count i) (copies a v (pages i)) i)
-      × AllAllowed 1024 (filling-plan p o (copies a v (pages i)) ++ word-steps p 2 (done-word o)) i
-      × (p < page-count i)
-
-  few-copies : store-number i ≡ 0 → length (copies a v (pages i)) ≤ 253
-  unfolding copies
-  few-copies ok = omega (arith, length-append (but a (settings (pages i))) (setting a v ∷ []), but-length a (settings (pages i)), held-few i ok)
-
-  open-is : open-steps (taken (pages i)) (next-order (pages i)) a v ≡ opening-plan (taken (pages i)) (active-order (states (pages i)) + 1) a v
-  unfolding open-steps opening-plan next-order
-  open-is = refl
-
-  move-is : move-steps page-edition (taken (pages i)) (next-order (pages i)) (copies a v (pages i)) (pages i) ≡ moving-plan (taken (pages i)) (active-order (states (pages i)) + 1) (page-count i) (copies a v (pages i)) i
-  unfolding move-steps fill-steps Rattle.rules.specs.Steps.other next-order moving-plan filling-plan pages
-  move-is = ap (λ (ss : List Step). word-steps (taken (pages i)) 1 (opening-word 2 (active-order (states (pages i)) + 1)) ++ copy-steps (taken (pages i)) 0 (copies a v (pages i)) ++ word-steps (taken (pages i)) 2 (done-word (active-order (states (pages i)) + 1)) ++ ss) (sym (picked-others (page-count i) (taken (pages i)) i))
-
-  module _ (ok : write-number a v i ≡ 0) where
-    means-stay : is-value (value a (pages i)) v ≡ true → Means Stay
-    unfolding Means write-steps way way-steps
-    means-stay s = (ok, rw s)
-
-    module _ (s : is-value (value a (pages i)) v ≡ false) where
-      means-append : has-free-slot (pages i) ≡ true → Means (Append (active-index (states (pages i))) (slot-place (free-slot (active-slots (pages i)))))
-      unfolding Means write-steps way way-steps append-steps
-      means-append f = ((ok, rw (s, f)), append-allowed i (store-right a v i ok) a v f)
-
-      means-open : has-free-slot (pages i) ≡ false → leb 2 (count is-cleared (states (pages i))) ≡ true → Means (Open (taken (pages i)) (active-order (states (pages i)) + 1))
-      unfolding Means write-steps way way-steps new-page next-order open-steps opening-plan
-      means-open f c = ((ok, rw (s, f, c)), open-allowed i (store-right a v i ok) (none-unclean a v i ok) a v)
-
-      means-move : has-free-slot (pages i) ≡ false → leb 2 (count is-cleared (states (pages i))) ≡ false → Means (Move (taken (pages i)) (active-order (states (pages i)) + 1))
-      unfolding Means write-steps way way-steps new-page next-order fill-steps filling-plan
-      means-move f c =
-          let right = store-right a v i ok in
-          let clean = none-unclean a v i ok in
-          ((ok, rw (s, f, c) move-is), move-allowed i right clean (copies a v (pages i)) (few-copies right), taken-within i right clean)
-
-  means-refuse : (write-number a v i ≡ 0 → ⊥) → Means (Refuse (write-number a v i))
-  unfolding Means
-  means-refuse ne = (refl, ne)
-
-  pub way-means : Means (way-for a v i)
-  unfolding way-for
-  way-means =
-      by-cases (eqb (write-number a v i) 0)
-      (λ t.
-      let ok = eqb-true (write-number a v i) 0 t in
-      by-cases (is-value (value a (pages i)) v) (λ s. rw (t, s) (means-stay ok s))
+  way-inside : write-number fm a v i ≡ 0 → Inside (way a v (pages fm i))
+  unfolding way new-page Inside
+  way-inside ok =
+      let w = write-fails fm i a v ok in
+      by-cases (is-value (value a (pages fm i)) v) (λ s. rw s tt)
       (λ s.
-      by-cases (has-free-slot (pages i)) (λ f. rw (t, s, f) (means-append ok s f))
-      (λ f. by-cases (leb 2 (count is-cleared (states (pages i)))) (λ c. rw (t, s, f, c) (means-open ok s f c)) (λ c. rw (t, s, f, c) (means-move ok s f c)))))
-      (λ t. rw t (means-refuse (eqb-false (write-number a v i) 0 t)))
+      by-cases (has-free-slot (pages fm i)) (λ f. rw (s, f) tt)
+      (λ f.
+      by-cases (leb 2 (count is-cleared (states (pages fm i)))) (λ c. rw (s, f, c) tt)
+      (λ c. rw (s, f, c) (taken-within fm i (w .stored) (w .clean)))))
+
+  -- ---- what the code's way tells
+
+  -- the write is accepted, and goes that way
+  record Goes (w : Write) : Type 0 where
+    number : write-number fm a v i ≡ 0
+    steps : write-steps (fm .edition) a v (pages fm i) ≡ way-steps (fm .edition) a v (pages fm i) w
+    may : AllAllowed (size fm) (way-steps (fm .edition) a v (pages fm i) w) i
+    inside : Inside w
+
+  unfoldable Means : Way → Type 0
+  Means (Refuse n) = (write-number fm a v i ≡ n) × (n ≡ 0 → ⊥)
+  Means Stay = Goes stay
+  Means (Append p k) = Goes (append-to p k)
+  Means (Open p o) = Goes (open-at p o)
+  Means (Move p o) = Goes (move-to p o)
+
+  goes : (w : Write) → Goes w → Means (as-way w)
+  unfolding Means
+  goes stay g = g
+  goes (append-to p k) g = g
+  goes (open-at p o) g = g
+  goes (move-to p o) g = g
+
+  way-means : Roomy fm → Means (way-for fm a v i)
+  unfolding way-for accepted Means write-steps
+  way-means roomy =
+      by-cases (eqb (write-number fm a v i) 0)
+      (λ t.
+      let ok = eqb-true (write-number fm a v i) 0 t in
+      let may = write-allowed (accepted-healthy fm roomy i (write-fails fm i a v ok .stored)) a v ok in
+      rw t (goes (way a v (pages fm i)) (record { number = ok; steps = refl; may = may; inside = way-inside ok })))
+      (λ t. rw t (refl, eqb-false (write-number fm a v i) 0 t))
 
 -- ---- the answer
 
-pub written : (a v n : ℕ) (i j : List ℕ) (ss : List Step) (r : Stepped) → write-number a v i ≡ 0 → write-steps page-edition a v (pages i) ≡ ss → Does n ss i r j → as-stepped r j ≡ write a v n i
-unfolding write
-written a v n i j ss r ok e d =
-    rw (d .number, d .steps, d .finished, d .image) (sym (stepped-done (write-number a v i) n (write-steps page-edition a v (pages i)) i ok ∙ rw (e, length-take n ss)))
+module _ (fm : Form) (a v n : ℕ) (i : List ℕ) where
+  written : (w : Write) → Goes fm a v i w → {j : List ℕ} {r : Stepped} → Does fm n (way-steps (fm .edition) a v (pages fm i) w) i r j
+      → as-stepped r j ≡ write fm a v n i
+  unfolding write
+  written w g {j} {r} d =
+      let ss = way-steps (fm .edition) a v (pages fm i) w in
+      rw (d .number, d .steps, d .finished, d .image)
+      (sym (stepped-done fm (write-number fm a v i) n (write-steps (fm .edition) a v (pages fm i)) i (g .number) ∙ rw (g .steps, length-take n ss)))
 
-pub not-written : (a v n number : ℕ) (i : List ℕ) → write-number a v i ≡ number → (number ≡ 0 → ⊥) → write a v n i ≡ record { number = number; steps = 0; finished = false; image = i }
-unfolding write
-not-written a v n number i e ne = rw e (stepped-refused number n (write-steps page-edition a v (pages i)) i ne)
+  not-written : (number : ℕ) → write-number fm a v i ≡ number → (number ≡ 0 → ⊥)
+      → write fm a v n i ≡ record { number = number; steps = 0; finished = false; image = i }
+  unfolding write
+  not-written number e ne = rw e (stepped-refused fm number n (write-steps (fm .edition) a v (pages fm i)) i ne)
 
--- ---- each way, as the call takes it
+  -- ---- each way, as the call takes it
 
-module _ (a v n : ℕ) (i : List ℕ) (w : Way) (is : w ≡ way-for a v i) (fits : Fitting w) where
-  means : {x : Way} → w ≡ x → Means a v i x
-  means e = subst (Means a v i) (sym is ∙ e) (way-means a v i)
+  module _ (roomy : Roomy fm) {w : Way} (chosen : Chosen fm a v i w) where
+    means : {x : Way} → w ≡ x → Means fm a v i x
+    means e = subst (Means fm a v i) (sym (chosen .is-way) ∙ e) (way-means fm a v i roomy)
 
-  pub refusing : (number : ℕ) → w ≡ Refuse number → (r : Stepped) → (r .number ≡ number) × (r .steps ≡ 0) × (r .finished ≡ false) → as-stepped r i ≡ write a v n i
-  unfolding Means
-  refusing number e r d =
-      let m : Means a v i (Refuse number) = means e in
-      rw (d .0, d .1, d .2) (sym (not-written a v n number i (m .0) (m .1)))
+    fits : {x : Way} → w ≡ x → Fitting fm x
+    fits e = subst (Fitting fm) e (chosen .fits)
 
-  pub staying : w ≡ Stay → (r : Stepped) → (r .number ≡ 0) × (r .steps ≡ min n 0) × (r .finished ≡ leb 0 n) → as-stepped r i ≡ write a v n i
-  unfolding Means run
-  staying e r d =
-      let m : Means a v i Stay = means e in
-      written a v n i i [] r (m .0) (m .1) (record { number = d .0; steps = d .1; finished = d .2; image = rw take-nil })
-
-  module _ (p k : ℕ) (e : w ≡ Append p k) where
-    pub append-ready : ((p < 32) × (k < 256)) × AllAllowed 1024 (take n (word-steps p k (record-word a v))) i
-    unfolding Means Fitting
-    append-ready =
-        let m : Means a v i (Append p k) = means e in
-        let f : Fitting (Append p k) = subst Fitting e fits in
-        (f, allowed-take 1024 n (word-steps p k (record-word a v)) i (m .1))
-
-    pub appended : (r : Stepped) (j : List ℕ) → Does n (word-steps p k (record-word a v)) i r j → as-stepped r j ≡ write a v n i
+    pub refusing : (number : ℕ) → w ≡ Refuse number → {r : Stepped} → (r .number ≡ number) × (r .steps ≡ 0) × (r .finished ≡ false)
+        → as-stepped r i ≡ write fm a v n i
     unfolding Means
-    appended r j d = let m : Means a v i (Append p k) = means e in written a v n i j (word-steps p k (record-word a v)) r (m .0 .0) (m .0 .1) d
+    refusing number e d =
+        let m : Means fm a v i (Refuse number) = means e in
+        rw (d .0, d .1, d .2) (sym (not-written number (m .0) (m .1)))
 
-  module _ (p o : ℕ) (e : w ≡ Open p o) where
-    pub open-ready : ((p < 32) × (o < 4194304)) × AllAllowed 1024 (take n (opening-plan p o a v)) i
-    unfolding Means Fitting
-    open-ready =
-        let m : Means a v i (Open p o) = means e in
-        let f : Fitting (Open p o) = subst Fitting e fits in
-        (f, allowed-take 1024 n (opening-plan p o a v) i (m .1))
+    pub staying : w ≡ Stay → {r : Stepped} → (r .number ≡ 0) × (r .steps ≡ min n 0) × (r .finished ≡ leb 0 n) → as-stepped r i ≡ write fm a v n i
+    unfolding Means way-steps run
+    staying e d =
+        let g : Goes fm a v i stay = means e in
+        written stay g (record { number = d .0; steps = d .1; finished = d .2; image = rw take-nil })
 
-    pub opened : (r : Stepped) (j : List ℕ) → Does n (opening-plan p o a v) i r j → as-stepped r j ≡ write a v n i
-    unfolding Means
-    opened r j d = let m : Means a v i (Open p o) = means e in written a v n i j (opening-plan p o a v) r (m .0 .0) (m .0 .1) d
+    module _ (p k : ℕ) (e : w ≡ Append p k) where
+      appending : Goes fm a v i (append-to p k)
+      unfolding Means
+      appending = means e
 
-  module _ (p o : ℕ) (e : w ≡ Move p o) (s : Store) (h : Opens i s) where
-    abbrev copying : List Setting
-    copying = copied (s .settings .addresses) (s .settings .values) (s .settings .held) a v
+      pub append-ready : ((p < 32) × (k < fm .slot-count)) × AllAllowed (size fm) (take n (append-steps p k a v)) i
+      unfolding Fitting way-steps
+      append-ready = let f : Fitting fm (Append p k) = fits e in (f, allowed-take (size fm) n (append-steps p k a v) i (appending .may))
 
-    pub accepted : write-number a v i ≡ 0
-    unfolding Means
-    accepted = let m : Means a v i (Move p o) = means e in m .0 .0
+      pub appended : {r : Stepped} {j : List ℕ} → Does fm n (append-steps p k a v) i r j → as-stepped r j ≡ write fm a v n i
+      unfolding way-steps
+      appended d = written (append-to p k) appending d
 
-    right : store-number i ≡ 0
-    right = store-right a v i accepted
+    module _ (p o : ℕ) (e : w ≡ Open p o) where
+      opening : Goes fm a v i (open-at p o)
+      unfolding Means
+      opening = means e
 
-    pub tabled : Tabled (s .settings)
-    tabled = record { table = settings (pages i); rising = held-rising i; few = held-few i right; holds = h .settings (h .number ∙ right) }
+      pub open-ready : ((p < 32) × (o < 4194304)) × AllAllowed (size fm) (take n (open-steps p o a v)) i
+      unfolding Fitting way-steps
+      open-ready = let f : Fitting fm (Open p o) = fits e in (f, allowed-take (size fm) n (open-steps p o a v) i (opening .may))
 
-    copies-are : copying ≡ copies a v (pages i)
-    unfolding copies tabled
-    copies-are = copied-table (s .settings) tabled a v
+      pub opened : {r : Stepped} {j : List ℕ} → Does fm n (open-steps p o a v) i r j → as-stepped r j ≡ write fm a v n i
+      unfolding way-steps
+      opened d = written (open-at p o) opening d
 
-    pub move-fits : (p < s .look .count) × (s .look .count ≤ 32) × (length i ≡ s .look .count * 1024) × (o < 4194304) × (s .settings .held ≤ 192) × (a < 65535)
-    unfolding Means Fitting
-    move-fits =
-        let m : Means a v i (Move p o) = means e in
-        let f : Fitting (Move p o) = subst Fitting e fits in
-        let c = look-count i (s .look) (h .look) right in
-        let z = right-sizes i (size-right i right) in
-        (rw c (m .2), look-few i (s .look) (h .look) right, rw c (z .sized), f .1, omega (arith, tabled .few, tabled .holds .few-held (tabled .few)), address-right a v i accepted)
+    module _ (p o : ℕ) (e : w ≡ Move p o) {s : Store} {xs ys : List ℕ} (h : Opens fm i s xs ys) where
+      moving : Goes fm a v i (move-to p o)
+      unfolding Means
+      moving = means e
 
-    pub move-ready : AllAllowed 1024 (take n (filling-plan p o copying ++ word-steps p 2 (done-word o))) i
-    unfolding Means
-    move-ready =
-        let m : Means a v i (Move p o) = means e in
-        rw copies-are (allowed-take 1024 n (filling-plan p o (copies a v (pages i)) ++ word-steps p 2 (done-word o)) i (m .1))
+      right : store-number fm i ≡ 0
+      right = write-fails fm i a v (moving .number) .stored
 
-    pub moved-all : (r : Stepped) (j : List ℕ) → Does n (moving-plan p o (s .look .count) copying i) i r j → as-stepped r j ≡ write a v n i
-    unfolding Means
-    moved-all r j d =
-        let m : Means a v i (Move p o) = means e in
-        let c = look-count i (s .look) (h .look) right in
-        written a v n i j (moving-plan p o (s .look .count) copying i) r accepted (m .0 .1 ∙ rw (c, copies-are)) d
+      below : a < 65535
+      unfolding wrong-address
+      below = leb-false 65535 a (write-fails fm i a v (moving .number) .address)
 
--- ---- the longest write
+      zero-number : s .number ≡ 0
+      zero-number = h .number ∙ right
 
-held-room : (a v : ℕ) (i : List ℕ) → write-number a v i ≡ 0 → is-value (value a (pages i)) v ≡ false → no-room a (pages i) ≡ false
-held-room a v i ok s = write-fails i a v ok .room s
+      pub tabled : Tabled xs ys (s .held)
+      tabled =
+          record { table = settings (pages fm i); rising = held-rising fm i; few = held-few fm i right; holds = h .holding zero-number .holds }
 
-copies-few : (a v : ℕ) (i : List ℕ) → write-number a v i ≡ 0 → is-value (value a (pages i)) v ≡ false → length (copies a v (pages i)) ≤ 192
-unfolding copies no-room is-held held
-copies-few a v i ok s =
-    let few = held-few i (store-right a v i ok) in
-    let l = length-append (but a (settings (pages i))) (setting a v ∷ []) in
-    by-option (value a (pages i))
-    (λ e.
-    let r : leb 192 (length (settings (pages i))) ≡ false = rw e at (held-room a v i ok s) in
-    omega (arith, leb-false 192 (length (settings (pages i))) r, but-length a (settings (pages i))))
-    (λ u e. omega (arith, but-length-held a u (settings (pages i)) (value-is i a ∙ e)))
+      abbrev copying : List Setting
+      copying = copied xs ys (s .held) a v
 
--- 388 steps and 3 for each page but one, as 01 has it
-pub longest-write : (a v : ℕ) (i : List ℕ) → write-number a v i ≡ 0 → length (write-steps page-edition a v (pages i)) ≤ 388 + 3 * (page-count i - 1)
-unfolding write-steps way way-steps new-page append-steps
-longest-write a v i ok =
-    by-cases (is-value (value a (pages i)) v) (λ s. rw s (omega arith))
-    (λ s.
-    by-cases (has-free-slot (pages i))
-    (λ f.
-    let two = word-steps-length (active-index (states (pages i))) (slot-place (free-slot (active-slots (pages i)))) (record-word a v) in
-    rw (s, f) (omega arith))
-    (λ f.
-    by-cases (leb 2 (count is-cleared (states (pages i))))
-    (λ c. let four = opening-long (taken (pages i)) (active-order (states (pages i)) + 1) a v 0 i in let e = ap length (open-is a v i) in rw (s, f, c) (omega arith))
-    (λ c.
-    let right = store-right a v i ok in
-    let inside = taken-within i right (none-unclean a v i ok) in
-    let m = moving-long (taken (pages i)) (active-order (states (pages i)) + 1) (page-count i) (copies a v (pages i)) i inside in
-    let e = ap length (move-is a v i) in
-    let few = copies-few a v i ok s in
-    rw (s, f, c) (omega arith))))
+      copies-are : copying ≡ copies a v (pages fm i)
+      unfolding copies tabled
+      copies-are = copied-table tabled a v
+
+      count-is : s .look .count ≡ page-count fm i
+      count-is = h .holding zero-number .told .counts
+
+      pub move-fits : (p < s .look .count) × (s .look .count ≤ 32) × (length i ≡ s .look .count * size fm) × (o < 4194304) × (s .held ≤ 192)
+          × (a < 65535)
+      unfolding Fitting Inside
+      move-fits =
+          let f : Fitting fm (Move p o) = fits e in
+          let sized = right-sizes fm i (size-right fm i right) .sized in (
+            rw count-is (moving .inside),
+            look-few (h .holding zero-number .told) right,
+            rw count-is sized,
+            f .1,
+            omega (arith, tabled .few, tabled .holds .few-held (tabled .few)),
+            below,
+          )
+
+      pub move-ready : AllAllowed (size fm) (take n (fill-steps p o copying)) i
+      unfolding way-steps move-steps
+      move-ready =
+          let cs = copies a v (pages fm i) in
+          let whole = allowed-take (size fm) n (move-steps (fm .edition) p o cs (pages fm i)) i (moving .may) in
+          rw copies-are (part-first (size fm) n (fill-steps p o cs) _ i whole)
+
+      pub moved-all : {r : Stepped} {j : List ℕ} → Does fm n (move-steps (fm .edition) p o copying (pages-of fm (s .look .count) i)) i r j
+          → as-stepped r j ≡ write fm a v n i
+      unfolding way-steps pages
+      moved-all {r} {j} d = written (move-to p o) moving (rw (copies-are, count-is) at d)

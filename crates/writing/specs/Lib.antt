@@ -1,2 +1,4 @@
+-- Definitions that the contracts of this crate cite.
 pub mod Answers
+pub mod Picks
 pub mod Plans

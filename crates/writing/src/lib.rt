@@ -1,26 +1,28 @@
 // The calls that change the image: format, recovery and write. An image of any length and content is lawful. It changes
-// through the two functions of crate flash only, one call for each step, in the order that 01 lists.
+// through the two functions of crate flash only, one call for each step, in the order of the rules.
 use choosing::Way;
+use pages::Form;
+use settings::HELD_MAX;
 use settings::Held;
-use settings::Settings;
-use store::Look;
+use settings::NO_ADDRESS;
+use settings::NO_VALUE;
+use survey::OK;
+use survey::PAGES_MAX;
+use survey::SIZE;
 ghost use mathlib.Core.Path.{_≡_};
 ghost use mathlib.Core.Bool.{false};
-ghost use mathlib.Core.List.{List, _++_};
-ghost use Prim.Native.Nat.{ℕ, _+_, _-_, _*_, _≤_, _<_, min};
+ghost use Prim.Native.Nat.{_+_, _*_, _≤_, _<_, min};
 ghost use lib.Dec.{leb};
 ghost use lib.ListN.{length, take};
-ghost use Rattle.rules.specs.Flash.{run};
-ghost use Rattle.rules.specs.Word.{word-steps, record-word, done-word};
-ghost use Rattle.rules.proofs.Plans.{AllAllowed};
-ghost use Rattle.rules.specs.Steps.{but};
-ghost use Rattle.steps.specs.Copied.{rows, copied};
-ghost use Rattle.ranks.specs.Places.{taken-places};
-ghost use Rattle.survey.specs.Survey.{picked, neither-at};
-ghost use Rattle.steps.specs.Picked.{picked-steps};
+ghost use Rattle.rules.specs.Flash.{AllAllowed};
+ghost use Rattle.rules.specs.Steps.{append-steps, open-steps, but, fill-steps, move-steps};
 ghost use Rattle.rules.specs.Call.{format, recover, write};
+ghost use Rattle.rules.specs.Page.{size};
+ghost use Rattle.pages.specs.Read.{as-form, Lawful};
+ghost use Rattle.steps.specs.Copied.{rows, copied};
 ghost use Rattle.writing.specs.Answers.{as-stepped};
-ghost use Rattle.writing.specs.Plans.{Does, Tabled, opening-plan, filling-plan, moving-plan, finished-image};
+ghost use Rattle.writing.specs.Picks.{picked, neither, neither-at, except};
+ghost use Rattle.writing.specs.Plans.{Part, Does, Tabled, pages-of};
 
 #[repr(C)]
 pub struct Stepped {
@@ -35,13 +37,13 @@ fn done(steps: u16, allowance: u16) -> Stepped
 {
     if allowance < steps {
         return Stepped {
-            number: 0,
+            number: OK,
             finished: false,
             steps: allowance,
         };
     }
     Stepped {
-        number: 0,
+        number: OK,
         finished: true,
         steps,
     }
@@ -58,72 +60,100 @@ fn refused(number: u8) -> Stepped
 }
 
 // The opening word of page 0: order 0, kind 1.
-pub fn format(image: &mut [u8]) -> u8
-    ensures { λ r. ⌜ r ≡ format (now (image .entry)) .number ⌝ }
-    ensures { λ r. ⌜ now (image .exit) ≡ format (now (image .entry)) .image ⌝ }
+pub fn format(image: &mut [u8], form: Form) -> u8
+    requires { ⌜ Lawful form ⌝ }
+    ensures { λ r. ⌜ r ≡ format (as-form form) (now (image .entry)) .number ⌝ }
+    ensures { λ r. ⌜ now (image .exit) ≡ format (as-form form) (now (image .entry)) .image ⌝ }
 {
-    let n = survey::page_count(image);
+    let n = survey::page_count(image, form);
     if n == 0 {
-        return 1;
+        return SIZE;
     }
-    steps::renew_all(image, 1, n);
-    steps::program_word(image, 0, 1, words::opening_word(1, 0), 2);
-    0
+    steps::renew_all(image, form, n);
+    steps::program_word(image, form, 0, 1, words::opening_word(1, 0), 2);
+    OK
 }
 
-// How many pages are neither used nor cleared.
-fn unclean_count(look: Look) -> u16
-    requires { ⌜ (look .count ≤ 32) × (look .used + taken-places (take 32 (look .spares)) ≤ look .count) ⌝ }
-    ensures { λ r. ⌜ r ≡ look .count - look .used - taken-places (take 32 (look .spares)) ⌝ }
+// An unclean page: neither used nor cleared.
+fn is_neither(rank: u32, spare: u32) -> bool
+    ensures { λ r. ⌜ r ≡ neither rank spare ⌝ }
 {
-    let spares = look.spares;
-    let cleared = ranks::count(&spares);
-    (look.count - look.used - cleared) as u16
+    if rank != 0 {
+        return false;
+    }
+    spare == 0
 }
 
-// Renews them, in index order.
-fn renew_unclean(image: &mut [u8], look: Look, allowance: u16)
-    requires { ⌜ (look .count ≤ 32) × (look .count * 1024 ≤ length (now image)) ⌝ }
-    ensures { λ _. ⌜ now (image .exit) ≡ run 1024 (take allowance (picked-steps 1 (look .count) (picked (neither-at (look .ranks) (look .spares)) (look .count)) (now (image .entry)))) (now (image .entry)) ⌝ }
+// Which of n pages are neither used nor cleared.
+fn unclean<'a>(
+    ranks: &'a [u32; PAGES_MAX],
+    spares: &'a [u32; PAGES_MAX],
+    n: usize,
+) -> [bool; PAGES_MAX]
+    requires { ⌜ n ≤ 32 ⌝ }
+    ensures { λ r. ⌜ r ≡ picked (neither-at (now (ranks .entry)) (now (spares .entry))) n ⌝ }
 {
-    let n = look.count;
-    let ranks = look.ranks;
-    let spares = look.spares;
-    let picks = survey::unclean(&ranks, &spares, n);
-    steps::recycle_picked(image, n, picks, 1, allowance);
+    let mut picks = [false; PAGES_MAX];
+    let mut i = 0;
+    while i < n {
+        picks[i] = is_neither(ranks[i], spares[i]);
+        i += 1;
+    }
+    picks
 }
 
-pub fn recover(image: &mut [u8], allowance: u16) -> Stepped
-    ensures { λ r. ⌜ as-stepped r (now (image .exit)) ≡ recover allowance (now (image .entry)) ⌝ }
+// All of n pages but one.
+fn others(n: usize, kept: usize) -> [bool; PAGES_MAX]
+    requires { ⌜ n ≤ 32 ⌝ }
+    ensures { λ r. ⌜ r ≡ picked (except kept) n ⌝ }
 {
-    let store = store::open(image);
+    let mut picks = [false; PAGES_MAX];
+    let mut i = 0;
+    while i < n {
+        picks[i] = i != kept;
+        i += 1;
+    }
+    picks
+}
+
+// The pages that are neither used nor cleared are renewed, in index order.
+pub fn recover(image: &mut [u8], form: Form, allowance: u16) -> Stepped
+    requires { ⌜ Lawful form ⌝ }
+    ensures { λ r. ⌜ as-stepped r (now (image .exit)) ≡ recover (as-form form) allowance (now (image .entry)) ⌝ }
+{
+    let mut addresses = [NO_ADDRESS; HELD_MAX];
+    let mut values = [NO_VALUE; HELD_MAX];
+    let store = store::open(image, form, &mut addresses, &mut values);
     let number = store.number;
-    if number != 0 {
+    if number != OK {
         return refused(number);
     }
-    let look = store.look;
-    let unclean = unclean_count(look);
-    renew_unclean(image, look, allowance);
-    done(3 * unclean, allowance)
+    let n = store.look.count;
+    let renewed = n - store.look.used - store.look.cleared;
+    let picks = unclean(&store.look.ranks, &store.look.spares, n);
+    steps::renew_picked(image, form, n, picks, allowance);
+    done(3 * renewed as u16, allowance)
 }
 
 // The record goes into a free slot.
 fn append(
     image: &mut [u8],
+    form: Form,
     page: usize,
-    place: usize,
+    slot: usize,
     address: u16,
     value: u8,
     allowance: u16,
 ) -> Stepped
-    requires { ⌜ (page < 32) × (place < 256) ⌝ }
-    requires { ⌜ AllAllowed 1024 (take allowance (word-steps page place (record-word address value))) (now image) ⌝ }
-    ensures { λ r. ⌜ Does allowance (word-steps page place (record-word address value)) (now (image .entry)) r (now (image .exit)) ⌝ }
+    requires { ⌜ Lawful form × (page < 32) × (slot < form .slots) ⌝ }
+    requires { ⌜ AllAllowed (size (as-form form)) (take allowance (append-steps page slot address value)) (now image) ⌝ }
+    ensures { λ r. ⌜ Does (as-form form) allowance (append-steps page slot address value) (now (image .entry)) r (now (image .exit)) ⌝ }
 {
     steps::program_word(
         image,
+        form,
         page,
-        place,
+        3 + slot,
         words::record_word(address, value),
         allowance,
     );
@@ -133,101 +163,152 @@ fn append(
 // A cleared page is opened, and the record goes into its slot 0.
 fn open_page(
     image: &mut [u8],
+    form: Form,
     page: usize,
     order: u32,
     address: u16,
     value: u8,
     allowance: u16,
 ) -> Stepped
-    requires { ⌜ (page < 32) × (order < 4194304) ⌝ }
-    requires { ⌜ AllAllowed 1024 (take allowance (opening-plan page order address value)) (now image) ⌝ }
-    ensures { λ r. ⌜ Does allowance (opening-plan page order address value) (now (image .entry)) r (now (image .exit)) ⌝ }
+    requires { ⌜ Lawful form × (page < 32) × (order < 4194304) ⌝ }
+    requires { ⌜ AllAllowed (size (as-form form)) (take allowance (open-steps page order address value)) (now image) ⌝ }
+    ensures { λ r. ⌜ Does (as-form form) allowance (open-steps page order address value) (now (image .entry)) r (now (image .exit)) ⌝ }
 {
-    let left = steps::program_word(image, page, 1, words::opening_word(1, order), allowance);
-    steps::program_word(image, page, 3, words::record_word(address, value), left);
+    let left = steps::program_word(
+        image,
+        form,
+        page,
+        1,
+        words::opening_word(1, order),
+        allowance,
+    );
+    steps::program_word(
+        image,
+        form,
+        page,
+        3,
+        words::record_word(address, value),
+        left,
+    );
     done(4, allowance)
 }
 
-// A cleared page is opened to receive, and what is held is copied to it.
-fn fill(
+// A cleared page is opened to receive, what is held is copied to it, and its done word is programmed.
+fn fill<'a>(
     image: &mut [u8],
+    form: Form,
     page: usize,
     order: u32,
-    s: Settings,
+    addresses: &'a [u16; HELD_MAX],
+    values: &'a [u8; HELD_MAX],
+    held: usize,
     address: u16,
     value: u8,
     left: u16,
 ) -> u16
-    requires { ⌜ (page < 32) × (order < 4194304) × (s .held ≤ 192) ⌝ }
-    requires { ⌜ AllAllowed 1024 (take left (filling-plan page order (copied (s .addresses) (s .values) (s .held) address value))) (now image) ⌝ }
-    ensures { λ r. ⌜ r ≡ left - length (filling-plan page order (copied (s .addresses) (s .values) (s .held) address value)) ⌝ }
-    ensures { λ r. ⌜ now (image .exit) ≡ run 1024 (take left (filling-plan page order (copied (s .addresses) (s .values) (s .held) address value))) (now (image .entry)) ⌝ }
+    requires { ⌜ Lawful form × (page < 32) × (order < 4194304) × (held ≤ 192) ⌝ }
+    requires { ⌜ AllAllowed (size (as-form form)) (take left (fill-steps page order (copied (now addresses) (now values) held address value))) (now image) ⌝ }
+    ensures { λ r. ⌜ Part (as-form form) left (fill-steps page order (copied (now (addresses .entry)) (now (values .entry)) held address value)) (now (image .entry)) (now (image .exit)) r ⌝ }
 {
-    let rest = steps::program_word(image, page, 1, words::opening_word(2, order), left);
-    steps::copy(image, page, s, address, value, rest)
-}
-
-// The done word, and then the other pages are renewed.
-fn finish(image: &mut [u8], page: usize, order: u32, n: usize, left: u16)
-    requires { ⌜ (page < 32) × (order < 4194304) × (n ≤ 32) × (n * 1024 ≤ length (now image)) ⌝ }
-    requires { ⌜ AllAllowed 1024 (take left (word-steps page 2 (done-word order))) (now image) ⌝ }
-    ensures { λ _. ⌜ now (image .exit) ≡ finished-image page order n left (now (image .entry)) ⌝ }
-{
-    let rest = steps::program_word(image, page, 2, words::done_word(order), left);
-    let picks = survey::others(n, page);
-    steps::recycle_picked(image, n, picks, 1, rest);
+    let opened = steps::program_word(image, form, page, 1, words::opening_word(2, order), left);
+    let rest = steps::copy(
+        image,
+        form,
+        page,
+        *addresses,
+        *values,
+        held,
+        address,
+        value,
+        opened,
+    );
+    steps::program_word(image, form, page, 2, words::done_word(order), rest)
 }
 
 // How many records a move copies.
-fn copy_count(s: Settings, address: u16) -> u16
-    requires { ⌜ (s .held ≤ 192) × (address < 65535) ⌝ }
-    requires { ⌜ Tabled s ⌝ }
-    ensures { λ r. ⌜ r ≡ length (but address (rows (s .addresses) (s .values) (s .held))) + 1 ⌝ }
+fn copy_count<'a>(
+    addresses: &'a [u16; HELD_MAX],
+    values: &'a [u8; HELD_MAX],
+    held: usize,
+    address: u16,
+) -> u16
+    requires { ⌜ (held ≤ 192) × (address < 65535) ⌝ }
+    requires { ⌜ Tabled (now addresses) (now values) held ⌝ }
+    ensures { λ r. ⌜ r ≡ length (but address (rows (now (addresses .entry)) (now (values .entry)) held)) + 1 ⌝ }
     ensures { λ r. ⌜ r ≤ 193 ⌝ }
 {
-    let held = s.held as u16;
-    match settings::value_of(s, address) {
-        Held::Value(_) => held,
-        Held::Nothing => held + 1,
+    match settings::value_in(addresses, values, address) {
+        Held::Value(_) => held as u16,
+        Held::Nothing => held as u16 + 1,
     }
 }
 
 // The last cleared page receives all that is held, and the other pages are renewed.
-fn move_to(
+fn move_to<'a>(
     image: &mut [u8],
+    form: Form,
     page: usize,
     order: u32,
     n: usize,
-    s: Settings,
+    addresses: &'a [u16; HELD_MAX],
+    values: &'a [u8; HELD_MAX],
+    held: usize,
     address: u16,
     value: u8,
     allowance: u16,
 ) -> Stepped
-    requires { ⌜ (page < n) × (n ≤ 32) × (length (now image) ≡ n * 1024) × (order < 4194304) × (s .held ≤ 192) × (address < 65535) ⌝ }
-    requires { ⌜ Tabled s ⌝ }
-    requires { ⌜ AllAllowed 1024 (take allowance (filling-plan page order (copied (s .addresses) (s .values) (s .held) address value) ++ word-steps page 2 (done-word order))) (now image) ⌝ }
-    ensures { λ r. ⌜ Does allowance (moving-plan page order n (copied (s .addresses) (s .values) (s .held) address value) (now (image .entry))) (now (image .entry)) r (now (image .exit)) ⌝ }
+    requires { ⌜ Lawful form × (page < n) × (n ≤ 32) × (length (now image) ≡ n * size (as-form form)) × (order < 4194304) × (held ≤ 192) × (address < 65535) ⌝ }
+    requires { ⌜ Tabled (now addresses) (now values) held ⌝ }
+    requires { ⌜ AllAllowed (size (as-form form)) (take allowance (fill-steps page order (copied (now addresses) (now values) held address value))) (now image) ⌝ }
+    ensures { λ r. ⌜ Does (as-form form) allowance (move-steps (form .edition) page order (copied (now (addresses .entry)) (now (values .entry)) held address value) (pages-of (as-form form) n (now (image .entry)))) (now (image .entry)) r (now (image .exit)) ⌝ }
 {
-    let copies = copy_count(s, address);
-    let left = fill(image, page, order, s, address, value, allowance);
-    finish(image, page, order, n, left);
+    let copies = copy_count(addresses, values, held, address);
+    let left = fill(
+        image,
+        form,
+        page,
+        order,
+        addresses,
+        values,
+        held,
+        address,
+        value,
+        allowance,
+    );
+    let picks = others(n, page);
+    steps::renew_picked(image, form, n, picks, left);
     done(2 * copies + 3 * n as u16 + 1, allowance)
 }
 
 // The steps that the image at the call fixes, by one look at it.
-pub fn write(image: &mut [u8], address: u16, value: u8, allowance: u16) -> Stepped
-    ensures { λ r. ⌜ as-stepped r (now (image .exit)) ≡ write address value allowance (now (image .entry)) ⌝ }
+pub fn write(image: &mut [u8], form: Form, address: u16, value: u8, allowance: u16) -> Stepped
+    requires { ⌜ Lawful form ⌝ }
+    ensures { λ r. ⌜ as-stepped r (now (image .exit)) ≡ write (as-form form) address value allowance (now (image .entry)) ⌝ }
 {
-    let store = store::open(image);
-    match choosing::choose(image, store, address, value) {
+    let mut addresses = [NO_ADDRESS; HELD_MAX];
+    let mut values = [NO_VALUE; HELD_MAX];
+    let store = store::open(image, form, &mut addresses, &mut values);
+    match choosing::choose(store, form, &addresses, &values, address, value) {
         Way::Refuse(number) => refused(number),
         Way::Stay => done(0, allowance),
-        Way::Append(page, place) => append(image, page, place, address, value, allowance),
-        Way::Open(page, order) => open_page(image, page, order, address, value, allowance),
+        Way::Append(page, slot) => append(image, form, page, slot, address, value, allowance),
+        Way::Open(page, order) => open_page(image, form, page, order, address, value, allowance),
         Way::Move(page, order) => {
             let n = store.look.count;
-            let s = store.settings;
-            move_to(image, page, order, n, s, address, value, allowance)
+            let held = store.held;
+            move_to(
+                image,
+                form,
+                page,
+                order,
+                n,
+                &addresses,
+                &values,
+                held,
+                address,
+                value,
+                allowance,
+            )
         }
     }
 }

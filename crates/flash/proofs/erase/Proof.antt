@@ -51,15 +51,4 @@ returns c =
     filled ∙ rw end (rw drop-length (append-nil _))
 
 pub erase-spec : {M : Type 1} → statement M
-erase-spec =
-    tie.close
-    (tie.spec
-    Inv-loop
-    μ-loop
-    loop-holds
-    slice-write-page
-    add-i
-    loop-less
-    loop-again
-    same-length
-    returns)
+erase-spec = tie.close (tie.spec Inv-loop μ-loop loop-holds slice-write-page add-i loop-less loop-again same-length returns)

@@ -29,5 +29,4 @@ returns c =
     erased-sized (s .args .at) (s .args .size) (s .args .image .now) (e .last .0) (s .pre) (e .ensures)
 
 pub erase-at-spec : {M : Type 1} → statement M
-erase-at-spec =
-    tie.close (tie.spec add-erase sub-erase part-erase-start part-erase-end erase-requires same-length returns)
+erase-at-spec = tie.close (tie.spec add-erase sub-erase part-erase-start part-erase-end erase-requires same-length returns)

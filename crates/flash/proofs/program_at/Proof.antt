@@ -35,6 +35,4 @@ returns c =
     programmed-rest (s .args .at) (s .args .image .now) (p .last .0) (s .args .low) (s .args .high) (long s) (p .ensures)
 
 pub program-at-spec : {M : Type 1} → statement M
-program-at-spec =
-    tie.close
-    (tie.spec sub-program part-program-start part-program-end program-requires same-length returns)
+program-at-spec = tie.close (tie.spec sub-program part-program-start part-program-end program-requires same-length returns)

@@ -1,91 +1,92 @@
-use mathlib.Core.List.{_++_}
-use lib.ListN.{length-append}
-use Rattle.rules.specs.Listing.{decimal, text-refused, line-end, setting-lines}
-use Rattle.lines.specs.Appended.{told-line}
-use Rattle.lines.proofs.Decimal.{decimal-length}
-use mathlib.Core.Path.{_≡_}
+-- `lines::list` meets its contract: an accepted image is listed, a refused one's number is told. Assumes nothing.
+use Prim.Native.Nat.{ℕ, _≤_}
+use mathlib.Core.List.{List, _++_}
 use native.Mathlib.Omega.{arith}
 use denote.Ref.{now}
-use Prim.Native.Nat.{_≤_}
-use lib.ListN.{length}
+use lib.ListN.{length, length-append}
+use borrow.Author.Needs.{needs}
+use Rattle.rules.specs.Page.{Form}
 use Rattle.rules.specs.Store.{settings}
 use Rattle.rules.specs.Call.{pages}
+use Rattle.rules.specs.Listing.{decimal, text-refused, line-end, setting-lines}
+use Rattle.pages.specs.Read.{as-form}
+use Rattle.settings.proofs.Tables.{holds-none}
+use Rattle.store.specs.declared.Store.{Store}
+use Rattle.store.specs.Opened.{Opens}
+use Rattle.store.proofs.Values.{look-told}
+use Rattle.lines.proofs.Decimal.{decimal-length}
 use Rattle.lines.proofs.Appending.{appends-then, appends-written}
-use Rattle.lines.proofs.Told.{told-count, told-used, told-held, told-newest, told-line-length, listing-room, listing-accepted, listing-refused}
-use borrow.Author.Needs.{needs}
+use Rattle.lines.proofs.Told.{told-pages, told-held, told-line-length, first, listing-room, listing-accepted, listing-refused}
 use Rattle.lines.proofs.list.Statement.{statement}
 use Rattle.lines.proofs.list.Tie as tie
-use Rattle.lines.proofs.list.Reads as reads
-use Rattle.lines.proofs.list.Lts as lts
-use Rattle.lines.proofs.put_first.Reads as put-first-reads
-use Rattle.lines.proofs.put_refused.Reads as put-refused-reads
-use Rattle.lines.proofs.put_settings.Reads as put-settings-reads
-use Rattle.store.proofs.open.Reads as open-reads
 
--- src/lib.rt:139:9
+module _ (c : tie.After-open) where
+  abbrev entry : tie.Start
+  entry = c .before .before .before .before .before
+
+  abbrev image : List ℕ
+  image = now (entry .args .image)
+
+  abbrev form : Form
+  form = as-form (entry .args .form)
+
+  abbrev buffer : List ℕ
+  buffer = now (entry .args .out)
+
+  abbrev store : Store
+  store = c .«open» .result
+
+  opens : Opens form image store (c .«open» .last .1 .1 .0) (c .«open» .last .1 .1 .1 .0)
+  opens = c .«open» .ensures
+
 open-requires : tie.Need-open-requires
-open-requires c κs = search needs
+open-requires c κs = (c .before .before .before .before .pre .0, holds-none)
 
--- src/lib.rt:142:9
 put-refused-requires : tie.Need-put-refused-requires
 put-refused-requires c κs = search needs
 
--- src/lib.rt:142:9
 same-length : tie.Need-same-length
 same-length c = search needs
 
--- src/lib.rt:142:9
 returns : tie.Need-returns
-returns c = let s = c .before .before .before .before .before .before .before .before in
-    let o = c .before .before .before .before .before .«open» in
-    let i = now (s .args .image) in
-    let p = c .before .before .put-refused in
-    let short = decimal-length (o .result .number) in
-    let room : length (text-refused ++ decimal (o .result .number) ++ line-end) ≤ length (now (s .args .out)) = simp length-append (omega arith) in
-    rw (← listing-refused i (o .result .number) (o .ensures .number) (c .before .before .before .before .if1 .taken)) (appends-written room (p .ensures))
+returns c =
+    let refused = c .before .before .before .before in
+    let o = refused .before in
+    let n = store o .number in
+    let short = decimal-length n in
+    let room : length (text-refused ++ decimal n ++ line-end) ≤ length (buffer o) = simp length-append (omega arith) in
+    rw (← listing-refused (form o) (image o) n (opens o .number) (refused .if1 .taken)) (appends-written room (c .before .before .put-refused .ensures))
 
--- src/lib.rt:146:9
 put-first-requires : tie.Need-put-first-requires
-put-first-requires c κs = let s = c .before .before .before .before .before .before .before in
-    let o = c .before .before .before .before .«open» in
-    let i = now (s .args .image) in
-    let z : o .result .number ≡ 0 = c .before .before .before .if1 .left in
-    ((told-count i (o .result) (o .ensures) z, told-used i (o .result) (o .ensures) z, told-held i (o .result) (o .ensures) z, omega arith), told-newest i (o .result) (o .ensures) z)
+put-first-requires c κs =
+    let right = c .before in
+    let o = opens (right .before) in
+    let z = right .if1 .left in
+    let p = told-pages o z in
+    ((p .0, p .1, p .2, look-told o z .fits, told-held o z), omega arith)
 
--- src/lib.rt:147:5
 put-settings-requires : tie.Need-put-settings-requires
-put-settings-requires c κs = let s = c .before .before .before .before .before .before .before .before .before .before .before in
-    let o = c .before .before .before .before .before .before .before .before .«open» in
-    let i = now (s .args .image) in
-    let z : o .result .number ≡ 0 = c .before .before .before .before .before .before .before .if1 .left in
-    let few = told-held i (o .result) (o .ensures) z in
-    (few, omega (arith, told-line-length (o .result .look) (o .result .settings .held)))
+put-settings-requires c κs =
+    let right = c .before .before .before .before .before .before .before in
+    let s = store (right .before) in
+    let l = s .look in
+    let few = told-held (opens (right .before)) (right .if1 .left) in
+    (few, omega (arith, told-line-length (l .count) (l .used) (l .cleared) (l .order) (s .held)))
 
--- src/lib.rt:135:1
 same-length-2 : tie.Need-same-length-2
 same-length-2 c = search needs
 
--- src/lib.rt:135:1
 returns-2 : tie.Need-returns-2
-returns-2 c = let s = c .before .before .before .before .before .before .before .before .before .before .before .before .before .before in
-    let o = c .before .before .before .before .before .before .before .before .before .before .before .«open» in
-    let i = now (s .args .image) in
-    let z : o .result .number ≡ 0 = c .before .before .before .before .before .before .before .before .before .before .if1 .left in
-    let f = c .before .before .before .before .before .before .put-first in
-    let p = c .before .before .put-settings in
-    let fits = listing-room i (o .result) (o .ensures) z in
-    let room : length (told-line (o .result .look) (o .result .settings .held) ++ setting-lines (settings (pages i))) ≤ length (now (s .args .out)) = omega arith in
-    rw (← listing-accepted i (o .result) (o .ensures) z) (appends-written room (appends-then (f .ensures) (p .ensures (settings (pages i)) (o .ensures .settings z))))
+returns-2 c =
+    let first-put = c .before .before .before .before .before .before .before .before in
+    let right = first-put .before .before in
+    let o = right .before in
+    let z = right .if1 .left in
+    let fits = listing-room (opens o) z in
+    let room : length (first (opens o) z ++ setting-lines (settings (pages (form o) (image o)))) ≤ length (buffer o) = omega arith in
+    let rest = c .before .before .put-settings .ensures (settings (pages (form o) (image o))) (opens o .holding z .holds) in
+    rw (← listing-accepted (opens o) z) (appends-written room (appends-then (first-put .put-first .ensures) rest))
 
 pub list-spec : {M : Type 1} → statement M
 list-spec =
-    tie.close
-    (tie.spec
-    open-requires
-    put-refused-requires
-    same-length
-    returns
-    put-first-requires
-    put-settings-requires
-    same-length-2
-    returns-2)
+    tie.close (tie.spec open-requires put-refused-requires same-length returns put-first-requires put-settings-requires same-length-2 returns-2)

@@ -1,3 +1,4 @@
+-- `lines::put_field` meets its contract: a text and a number. Assumes nothing.
 use Rattle.lines.proofs.Appending.{appends-then}
 use borrow.Author.Needs.{needs}
 use Rattle.lines.proofs.put_field.Statement.{statement}
@@ -7,19 +8,15 @@ use Rattle.lines.proofs.put_field.Lts as lts
 use Rattle.lines.proofs.put_number.Reads as put-number-reads
 use Rattle.lines.proofs.put_text.Reads as put-text-reads
 
--- src/lib.rt:51:9
 put-text-requires : tie.Need-put-text-requires
 put-text-requires c κs = search needs
 
--- src/lib.rt:52:5
 put-number-requires : tie.Need-put-number-requires
 put-number-requires c κs = search needs
 
--- src/lib.rt:47:1
 same-length : tie.Need-same-length
 same-length c = search needs
 
--- src/lib.rt:47:1
 returns : tie.Need-returns
 returns c = appends-then (c .before .before .before .before .before .before .put-text .ensures) (c .before .before .put-number .ensures)
 

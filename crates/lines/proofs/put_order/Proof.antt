@@ -1,3 +1,4 @@
+-- `lines::put_order` meets its contract: the order of the first line. Assumes nothing.
 use native.Mathlib.Omega.{arith}
 use Rattle.rules.specs.Listing.{decimal, text-held}
 use Rattle.lines.specs.Appended.{order-part}
@@ -11,32 +12,25 @@ use Rattle.lines.proofs.put_order.Lts as lts
 use Rattle.lines.proofs.put_byte.Reads as put-byte-reads
 use Rattle.lines.proofs.put_field.Reads as put-field-reads
 
--- src/lib.rt:96:43
 slice-aggregate-put-field : tie.Need-slice-aggregate-put-field
 slice-aggregate-put-field c = search needs
 
--- src/lib.rt:96:9
 put-field-requires : tie.Need-put-field-requires
 put-field-requires c κs = search needs
 
--- src/lib.rt:97:52
 slice-aggregate-put-field-2 : tie.Need-slice-aggregate-put-field-2
 slice-aggregate-put-field-2 c = search needs
 
--- src/lib.rt:97:9
 put-field-requires-2 : tie.Need-put-field-requires-2
 put-field-requires-2 c κs = (omega arith, omega (arith, decimal-length (c .before .before .before .before .before .before .before .before .args .order)))
 
--- src/lib.rt:98:5
 put-byte-requires : tie.Need-put-byte-requires
 put-byte-requires c κs = let a = c .before .before .before .before .before .before .before .before .before .before .before .before .args in
     omega (arith, decimal-length (a .order), decimal-length (a .held))
 
--- src/lib.rt:92:1
 same-length : tie.Need-same-length
 same-length c = search needs
 
--- src/lib.rt:92:1
 returns : tie.Need-returns
 unfolding order-part
 returns c = let a = c .before .before .before .before .before .before .before .before .before .before .before .before .before .before .before .args in
@@ -46,12 +40,5 @@ returns c = let a = c .before .before .before .before .before .before .before .b
 
 pub put-order-spec : {M : Type 1} → statement M
 put-order-spec =
-    tie.close
-    (tie.spec
-    slice-aggregate-put-field
-    put-field-requires
-    slice-aggregate-put-field-2
-    put-field-requires-2
-    put-byte-requires
-    same-length
+    tie.close (tie.spec slice-aggregate-put-field put-field-requires slice-aggregate-put-field-2 put-field-requires-2 put-byte-requires same-length
     returns)

@@ -1,3 +1,4 @@
+-- `lines::put_pages` meets its contract: the pages of the first line. Assumes nothing.
 use native.Mathlib.Omega.{arith}
 use Rattle.rules.specs.Listing.{decimal, text-used, text-cleared}
 use Rattle.lines.specs.Appended.{pages-part}
@@ -10,36 +11,28 @@ use Rattle.lines.proofs.put_pages.Reads as reads
 use Rattle.lines.proofs.put_pages.Lts as lts
 use Rattle.lines.proofs.put_field.Reads as put-field-reads
 
--- src/lib.rt:86:43
 slice-aggregate-put-field : tie.Need-slice-aggregate-put-field
 slice-aggregate-put-field c = search needs
 
--- src/lib.rt:86:9
 put-field-requires : tie.Need-put-field-requires
 put-field-requires c κs = search needs
 
--- src/lib.rt:87:52
 slice-aggregate-put-field-2 : tie.Need-slice-aggregate-put-field-2
 slice-aggregate-put-field-2 c = search needs
 
--- src/lib.rt:87:9
 put-field-requires-2 : tie.Need-put-field-requires-2
 put-field-requires-2 c κs = (omega arith, omega (arith, decimal-length (c .before .before .before .before .before .before .before .before .args .count)))
 
--- src/lib.rt:88:33
 slice-aggregate-put-field-3 : tie.Need-slice-aggregate-put-field-3
 slice-aggregate-put-field-3 c = search needs
 
--- src/lib.rt:88:5
 put-field-requires-3 : tie.Need-put-field-requires-3
 put-field-requires-3 c κs = let a = c .before .before .before .before .before .before .before .before .before .before .before .before .before .args in
     (omega arith, omega (arith, decimal-length (a .count), decimal-length (a .used), decimal-length (a .cleared)))
 
--- src/lib.rt:81:1
 same-length : tie.Need-same-length
 same-length c = search needs
 
--- src/lib.rt:81:1
 returns : tie.Need-returns
 unfolding pages-part
 returns c = let a = c .before .before .before .before .before .before .before .before .before .before .before .before .before .before .before .before .args in
@@ -49,13 +42,5 @@ returns c = let a = c .before .before .before .before .before .before .before .b
 
 pub put-pages-spec : {M : Type 1} → statement M
 put-pages-spec =
-    tie.close
-    (tie.spec
-    slice-aggregate-put-field
-    put-field-requires
-    slice-aggregate-put-field-2
-    put-field-requires-2
-    slice-aggregate-put-field-3
-    put-field-requires-3
-    same-length
-    returns)
+    tie.close (tie.spec slice-aggregate-put-field put-field-requires slice-aggregate-put-field-2 put-field-requires-2 slice-aggregate-put-field-3
+    put-field-requires-3 same-length returns)

@@ -1,3 +1,4 @@
+-- `lines::put_refused` meets its contract: the line of a refusal. Assumes nothing.
 use native.Mathlib.Omega.{arith}
 use Rattle.lines.proofs.Appending.{appends-then}
 use Rattle.lines.proofs.Decimal.{decimal-length}
@@ -9,27 +10,20 @@ use Rattle.lines.proofs.put_refused.Lts as lts
 use Rattle.lines.proofs.put_byte.Reads as put-byte-reads
 use Rattle.lines.proofs.put_field.Reads as put-field-reads
 
--- src/lib.rt:129:32
 slice-aggregate-put-field : tie.Need-slice-aggregate-put-field
 slice-aggregate-put-field c = search needs
 
--- src/lib.rt:129:9
 put-field-requires : tie.Need-put-field-requires
 put-field-requires c κs = search needs
 
--- src/lib.rt:130:5
 put-byte-requires : tie.Need-put-byte-requires
 put-byte-requires c κs = omega (arith, decimal-length (c .before .before .before .before .before .before .before .args .number))
 
--- src/lib.rt:125:1
 same-length : tie.Need-same-length
 same-length c = search needs
 
--- src/lib.rt:125:1
 returns : tie.Need-returns
 returns c = appends-then (c .before .before .before .before .before .before .put-field .ensures) (c .before .before .put-byte .ensures)
 
 pub put-refused-spec : {M : Type 1} → statement M
-put-refused-spec =
-    tie.close
-    (tie.spec slice-aggregate-put-field put-field-requires put-byte-requires same-length returns)
+put-refused-spec = tie.close (tie.spec slice-aggregate-put-field put-field-requires put-byte-requires same-length returns)

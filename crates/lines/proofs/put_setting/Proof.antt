@@ -1,3 +1,4 @@
+-- `lines::put_setting` meets its contract: one line of a setting. Assumes nothing.
 use Rattle.rules.specs.Listing.{decimal, space}
 use native.Mathlib.Omega.{arith}
 use Rattle.lines.specs.Appended.{setting-line}
@@ -12,29 +13,23 @@ use Rattle.lines.proofs.put_byte.Reads as put-byte-reads
 use Rattle.lines.proofs.put_field.Reads as put-field-reads
 use Rattle.lines.proofs.put_number.Reads as put-number-reads
 
--- src/lib.rt:60:9
 put-number-requires : tie.Need-put-number-requires
 put-number-requires c κs = search needs
 
--- src/lib.rt:61:55
 slice-aggregate-put-field : tie.Need-slice-aggregate-put-field
 slice-aggregate-put-field c = search needs
 
--- src/lib.rt:61:9
 put-field-requires : tie.Need-put-field-requires
 put-field-requires c κs = let a = c .before .before .before .before .before .before .before .args in
     (omega arith, omega (arith, decimal-length (a .address), decimal-length (a .value)))
 
--- src/lib.rt:62:5
 put-byte-requires : tie.Need-put-byte-requires
 put-byte-requires c κs = let a = c .before .before .before .before .before .before .before .before .before .before .before .args in
     omega (arith, decimal-length (a .address), decimal-length (a .value))
 
--- src/lib.rt:56:1
 same-length : tie.Need-same-length
 same-length c = search needs
 
--- src/lib.rt:56:1
 returns : tie.Need-returns
 unfolding setting-line
 returns c = let a = c .before .before .before .before .before .before .before .before .before .before .before .before .before .before .args in
@@ -43,12 +38,4 @@ returns c = let a = c .before .before .before .before .before .before .before .b
     appends-then (appends-field space (decimal (a .value)) (n .ensures) (f .ensures)) (c .before .before .put-byte .ensures)
 
 pub put-setting-spec : {M : Type 1} → statement M
-put-setting-spec =
-    tie.close
-    (tie.spec
-    put-number-requires
-    slice-aggregate-put-field
-    put-field-requires
-    put-byte-requires
-    same-length
-    returns)
+put-setting-spec = tie.close (tie.spec put-number-requires slice-aggregate-put-field put-field-requires put-byte-requires same-length returns)

@@ -1,3 +1,4 @@
+-- `main` meets its contract: what it reads and prints lies in its buffers. Assumes only what io and libc do.
 use mathlib.Core.Path.{sym}
 use lib.Seq.{length-take-le}
 use borrow.Author.Needs.{needs}
@@ -45,7 +46,7 @@ array-share-prefix-out c = search needs
 -- src/main.rt:11:34
 slice-aggregate-write-all : tie.Need-slice-aggregate-write-all
 slice-aggregate-write-all c = let l = c .before .before .list in
-    sym (length-take-le (l .result) (l .last .1 .0) (l .ensures .within))
+    sym (length-take-le (l .result) (l .last .1 .1 .0) (l .ensures .within))
 
 -- src/main.rt:11:5
 write-all-requires : tie.Need-write-all-requires
@@ -57,16 +58,5 @@ returns c = search needs
 
 pub main-spec : {M : Type 1} → statement M
 main-spec =
-    tie.close
-    (tie.spec
-    slice-aggregate-read-full
-    read-full-requires
-    buffer-requires
-    array-share-prefix-bytes
-    slice-aggregate-list
-    slice-aggregate-list-2
-    list-requires
-    array-share-prefix-out
-    slice-aggregate-write-all
-    write-all-requires
-    returns)
+    tie.close (tie.spec slice-aggregate-read-full read-full-requires buffer-requires array-share-prefix-bytes slice-aggregate-list
+    slice-aggregate-list-2 list-requires array-share-prefix-out slice-aggregate-write-all write-all-requires returns)

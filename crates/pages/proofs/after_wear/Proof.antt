@@ -92,20 +92,5 @@ returns-5 c =
 
 pub after-wear-spec : {M : Type 1} → statement M
 after-wear-spec =
-    tie.close
-    (tie.spec
-    word-at-requires
-    order-in-requires
-    is-opening-requires
-    returns
-    is-opening-requires-2
-    word-at-requires-2
-    is-done-requires
-    returns-2
-    returns-3
-    sub-all-blank
-    part-all-blank-start
-    part-all-blank-end
-    all-blank-requires
-    returns-4
-    returns-5)
+    tie.close (tie.spec word-at-requires order-in-requires is-opening-requires returns is-opening-requires-2 word-at-requires-2 is-done-requires
+    returns-2 returns-3 sub-all-blank part-all-blank-start part-all-blank-end all-blank-requires returns-4 returns-5)

@@ -51,16 +51,4 @@ returns-2 c = let here = c .before .loop in sym (here .inv .1 ∙ blank-end (her
 
 pub all-blank-spec : {M : Type 1} → statement M
 all-blank-spec =
-    tie.close
-    (tie.spec
-    Inv-loop
-    μ-loop
-    loop-holds
-    add-loop
-    word-at-requires
-    is-blank-requires
-    returns
-    add-at
-    loop-less
-    loop-again
-    returns-2)
+    tie.close (tie.spec Inv-loop μ-loop loop-holds add-loop word-at-requires is-blank-requires returns add-at loop-less loop-again returns-2)

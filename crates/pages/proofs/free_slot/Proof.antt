@@ -51,16 +51,4 @@ returns-2 c = let here = c .before .loop in (sym (here .inv .1 ∙ free-none (he
 
 pub free-slot-spec : {M : Type 1} → statement M
 free-slot-spec =
-    tie.close
-    (tie.spec
-    Inv-loop
-    μ-loop
-    loop-holds
-    sub-last
-    mul-word-at
-    word-at-requires
-    is-blank-requires
-    returns
-    loop-less
-    loop-again
-    returns-2)
+    tie.close (tie.spec Inv-loop μ-loop loop-holds sub-last mul-word-at word-at-requires is-blank-requires returns loop-less loop-again returns-2)

@@ -27,5 +27,4 @@ unfolding is-done
 returns-2 c = rw (← c .before .before .low24 .ensures, eq-eqb _ _ (c .before .if1 .left), and-true) (c .is-sound .ensures)
 
 pub is-done-spec : {M : Type 1} → statement M
-is-done-spec =
-    tie.close (tie.spec low24-requires mul-if1 add-if1 returns is-sound-requires returns-2)
+is-done-spec = tie.close (tie.spec low24-requires mul-if1 add-if1 returns is-sound-requires returns-2)

@@ -41,13 +41,4 @@ returns-3 c =
     sym (renewed-next _ _ (c .before .before .before .before .before .before .pre) e t ∙ rw (← n) (omega arith))
 
 pub renewed-wear-spec : {M : Type 1} → statement M
-renewed-wear-spec =
-    tie.close
-    (tie.spec
-    word-at-requires
-    is-wear-requires
-    returns
-    low16-requires
-    returns-2
-    add-result
-    returns-3)
+renewed-wear-spec = tie.close (tie.spec word-at-requires is-wear-requires returns low16-requires returns-2 add-result returns-3)

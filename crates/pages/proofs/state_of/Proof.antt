@@ -35,12 +35,4 @@ returns-2 c =
     (sym (no-wear _ _ (omega arith) (w .word-at .ensures) t), omega arith)
 
 pub state-of-spec : {M : Type 1} → statement M
-state-of-spec =
-    tie.close
-    (tie.spec
-    word-at-requires
-    is-wear-requires
-    low16-requires
-    after-wear-requires
-    returns
-    returns-2)
+state-of-spec = tie.close (tie.spec word-at-requires is-wear-requires low16-requires after-wear-requires returns returns-2)

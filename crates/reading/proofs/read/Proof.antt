@@ -1,96 +1,94 @@
-use Prim.Native.Nat.{_<_}
+-- `reading::read` meets its contract: each test is the rules', in their order. Assumes nothing.
+use Prim.Native.Nat.{ℕ, _<_}
 use mathlib.Core.Path.{_≡_, sym, ap, _∙_}
-use mathlib.Core.Option.{Option, none, some}
+use mathlib.Core.List.{List}
 use native.Mathlib.Omega.{arith}
 use denote.Ref.{now}
-use Rattle.rules.specs.Store.{settings, value}
+use borrow.Author.Needs.{needs}
+use Rattle.rules.specs.Store.{value}
 use Rattle.rules.specs.Call.{pages, store-number}
+use Rattle.rules.specs.Page.{Form}
 use Rattle.rules.proofs.Answers.{read-refused, read-last, read-found, read-nothing}
 use Rattle.settings.specs.Held.{as-option}
-use Rattle.rules.proofs.Held.{held-rising, held-few, value-is}
-use borrow.Author.Needs.{needs}
+use Rattle.pages.specs.Read.{as-form}
+use Rattle.settings.proofs.Tables.{holds-none}
+use Rattle.store.specs.Opened.{Opens}
+use Rattle.store.proofs.Values.{store-ok, value-found}
 use Rattle.reading.proofs.read.Statement.{statement}
 use Rattle.reading.proofs.read.Tie as tie
-use Rattle.reading.proofs.read.Reads as reads
-use Rattle.reading.proofs.read.Lts as lts
-use Rattle.settings.proofs.value_of.Reads as value-of-reads
-use Rattle.store.proofs.open.Reads as open-reads
 
--- src/lib.rt:44:9
+-- ---- what is known at each place
+
+module _ (c : tie.After-open) where
+  abbrev entry : tie.Start
+  entry = c .before .before .before .before
+
+  abbrev image : List ℕ
+  image = now (entry .args .image)
+
+  abbrev form : Form
+  form = as-form (entry .args .form)
+
+  abbrev address : ℕ
+  address = entry .args .address
+
+  opens : Opens form image (c .«open» .result) (c .«open» .last .1 .1 .0) (c .«open» .last .1 .1 .1 .0)
+  opens = c .«open» .ensures
+
+ok : (c : tie.Else1) → store-number (form (c .before)) (image (c .before)) ≡ 0
+ok c = store-ok (opens (c .before)) (c .if1 .left)
+
+below : (c : tie.Else2) → address (c .before .before) < 65535
+below c =
+    let start = c .before .before .before .before .before .before in
+    let ne : start .args .address ≡ 65535 → ⊥ = c .if2 .left in
+    omega (arith, start .fits .address)
+
+-- what was found is the value that is held
+module _ (c : tie.After-value-in) where
+  abbrev after-tests : tie.Else2
+  after-tests = c .before .before .before
+
+  abbrev opened : tie.After-open
+  opened = after-tests .before .before
+
+  found : value (address opened) (pages (form opened) (image opened)) ≡ as-option (c .value-in .result)
+  found = value-found (opens opened) (after-tests .before .if1 .left) (address opened) (below after-tests) (c .value-in .ensures)
+
+-- ---- the needs
+
 open-requires : tie.Need-open-requires
-open-requires c κs = search needs
+open-requires c κs = (c .before .before .before .pre, holds-none)
 
--- src/lib.rt:47:9
 returns : tie.Need-returns
 returns c =
-    let a = c .before .before .before .args in
-    let i = now (a .image) in
-    let o = c .before .«open» in
-    let ne : store-number i ≡ 0 → ⊥ = λ e. c .if1 .taken (o .ensures .number ∙ e) in
-    rw (o .ensures .number) (sym (read-refused i (a .address) ne))
+    let o = opens (c .before) in
+    rw (o .number) (sym (read-refused (form (c .before)) (image (c .before)) (address (c .before)) (λ e. c .if1 .taken (o .number ∙ e))))
 
--- src/lib.rt:50:9
 returns-2 : tie.Need-returns-2
-returns-2 c =
-    let a = c .before .before .before .before .args in
-    let i = now (a .image) in
-    let o = c .before .before .«open» in
-    let ok : store-number i ≡ 0 = sym (o .ensures .number) ∙ c .before .if1 .left in
-    sym (read-last i (a .address) ok (c .if2 .taken))
+returns-2 c = let o = c .before .before in sym (read-last (form o) (image o) (address o) (ok (c .before)) (c .if2 .taken))
 
--- src/lib.rt:53:11
-value-of-requires : tie.Need-value-of-requires
-value-of-requires c κs = search needs
+value-in-requires : tie.Need-value-in-requires
+value-in-requires c κs = search needs
 
--- src/lib.rt:54:21
 enum-known-value : tie.Need-enum-known-value
 enum-known-value c = search needs
 
--- src/lib.rt:55:26
 enum-told : tie.Need-enum-told
 enum-told c = search needs
 
--- src/lib.rt:41:1
 returns-3 : tie.Need-returns-3
 returns-3 c =
-    let s = c .before .before .before .before .before .before .before .before .before in
-    let a = s .args in
-    let i = now (a .image) in
-    let o = c .before .before .before .before .before .before .before .«open» in
-    let z : o .result .number ≡ 0 = c .before .before .before .before .before .before .if1 .left in
-    let ok : store-number i ≡ 0 = sym (o .ensures .number) ∙ z in
-    let ne : a .address ≡ 65535 → ⊥ = c .before .before .before .before .before .if2 .left in
-    let l : a .address < 65535 = omega (arith, s .fits .address) in
-    let v = c .before .before .before .value-of in
-    let e : value (a .address) (pages i) ≡ some (c .before .value .given .0 .0) =
-    sym (value-is i (a .address)) ∙ sym (v .ensures (settings (pages i)) (held-rising i) (held-few i ok) l (o .ensures .settings z)) ∙ ap as-option (c .before .value .given .1) in
-    sym (read-found i (a .address) ok (c .before .value .given .0 .0) l e)
+    let f = c .before .before .before in
+    let v = c .before .value .given in
+    let o = opened f in
+    sym (read-found (form o) (image o) (address o) (ok (after-tests f .before)) (v .0 .0) (below (after-tests f)) (found f ∙ ap as-option (v .1)))
 
--- src/lib.rt:41:1
 returns-4 : tie.Need-returns-4
 returns-4 c =
-    let s = c .before .before .before .before .before .before .before .before in
-    let a = s .args in
-    let i = now (a .image) in
-    let o = c .before .before .before .before .before .before .«open» in
-    let z : o .result .number ≡ 0 = c .before .before .before .before .before .if1 .left in
-    let ok : store-number i ≡ 0 = sym (o .ensures .number) ∙ z in
-    let ne : a .address ≡ 65535 → ⊥ = c .before .before .before .before .if2 .left in
-    let l : a .address < 65535 = omega (arith, s .fits .address) in
-    let v = c .before .before .value-of in
-    let e : value (a .address) (pages i) ≡ none =
-    sym (value-is i (a .address)) ∙ sym (v .ensures (settings (pages i)) (held-rising i) (held-few i ok) l (o .ensures .settings z)) ∙ ap as-option (c .enum-told .given .1) in
-    sym (read-nothing i (a .address) ok l e)
+    let f = c .before .before in
+    let o = opened f in
+    sym (read-nothing (form o) (image o) (address o) (ok (after-tests f .before)) (below (after-tests f)) (found f ∙ ap as-option (c .enum-told .given .1)))
 
 pub read-spec : {M : Type 1} → statement M
-read-spec =
-    tie.close
-    (tie.spec
-    open-requires
-    returns
-    returns-2
-    value-of-requires
-    enum-known-value
-    enum-told
-    returns-3
-    returns-4)
+read-spec = tie.close (tie.spec open-requires returns returns-2 value-in-requires enum-known-value enum-told returns-3 returns-4)

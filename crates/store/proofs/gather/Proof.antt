@@ -1,109 +1,83 @@
+-- `store::gather` meets its contract. The invariant: the table holds the records of the pages passed. Assumes nothing.
 use Prim.Native.Nat.{ℕ, _≤_, _-_}
-use mathlib.Core.Path.{_≡_, ap, _∙_, subst}
+use mathlib.Core.Path.{_≡_, subst}
+use mathlib.Core.Logic.{inl, inr, ⊎-elim}
 use mathlib.Core.List.{[]}
 use native.Mathlib.Omega.{arith}
 use denote.Ref.{now}
 use lib.ListN.{take}
 use Rattle.rules.specs.Store.{put-all}
+use Rattle.pages.specs.Read.{as-form}
 use Rattle.settings.specs.Held.{Holds}
-use Rattle.settings.proofs.Tables.{holds-none}
 use Rattle.store.specs.Gather.{gathered}
-use Rattle.store.proofs.Gathering.{gather-more}
+use Rattle.store.proofs.Gathering.{Passed, slots-few, all-passed, gather-more}
 use Rattle.store.proofs.gather.Statement.{statement}
 use Rattle.store.proofs.gather.Tie as tie
-use Rattle.store.proofs.gather.Reads as reads
-use Rattle.store.proofs.gather.Lts as lts
-use Rattle.settings.proofs.put_slots.Reads as put-slots-reads
 
 abbrev Inv-loop : tie.InvT-loop
-Inv-loop image places used addresses₀ values₀ held₀ k₀ addresses values held k = (k ≤ used) × Holds addresses values held (put-all [] (gathered image (take k places)))
+Inv-loop image form line used free addresses₀ values₀ held₀ k₀ addresses values held k =
+    (k ≤ used) × Holds addresses values held (put-all [] (gathered (as-form form) image (take k line)))
 
 abbrev μ-loop : tie.MeasureT-loop
-μ-loop image places used addresses₀ values₀ held₀ k₀ addresses values held k = used - k
+μ-loop image form line used free addresses₀ values₀ held₀ k₀ addresses values held k = used - k
 
--- src/lib.rt:72:5
 loop-holds : tie.Need-loop-holds Inv-loop μ-loop
 unfolding gathered put-all
-loop-holds c = (omega arith, holds-none)
+loop-holds c = (omega arith, c .before .pre .1 .1)
 
--- src/lib.rt:73:18
-mul-at : tie.Need-mul-at Inv-loop μ-loop
-mul-at c = omega arith
+-- so many slots are passed
+passed : (c : tie.Joined1 Inv-loop μ-loop) →
+    let a = c .before .before .before .before .args in Passed (as-form (a .form)) (a .used) (a .free) (c .before .before .loop .k) (c .if1 .n)
+passed c = ⊎-elim (λ w. inl (w .0 .taken, w .1)) (λ w. inr (w .1)) (c .if1 .came)
 
--- src/lib.rt:73:18
-element-copy-out-at : tie.Need-element-copy-out-at Inv-loop μ-loop
-element-copy-out-at c = omega arith
+add-if1 : tie.Need-add-if1 Inv-loop μ-loop
+add-if1 c = omega arith
 
--- src/lib.rt:73:18
-mul-at-2 : tie.Need-mul-at-2 Inv-loop μ-loop
-mul-at-2 c = (let k = c .before .before .loop .k in let s = c .before .before .before .before in let l = s .pre .1 k (omega arith) in omega arith)
+element-copy-out-put-page : tie.Need-element-copy-out-put-page Inv-loop μ-loop
+element-copy-out-put-page c = omega arith
 
--- src/lib.rt:74:21
-add-slots : tie.Need-add-slots Inv-loop μ-loop
-add-slots c = (let k = c .before .before .loop .k in let s = c .before .before .before .before in let l = s .pre .1 k (omega arith) in omega arith)
+cast-put-page : tie.Need-cast-put-page Inv-loop μ-loop
+cast-put-page c =
+    let start = c .before .before .before .before .before in
+    omega (arith, start .pre .1 .0 .places (c .before .before .before .loop .k) (omega arith))
 
--- src/lib.rt:75:19
-add-end : tie.Need-add-end Inv-loop μ-loop
-add-end c = (let k = c .before .before .loop .k in let s = c .before .before .before .before in let l = s .pre .1 k (omega arith) in omega arith)
+put-page-requires : tie.Need-put-page-requires Inv-loop μ-loop
+put-page-requires c κs =
+    let joined = c .before .before .before in
+    let start = joined .before .before .before .before in
+    let k = joined .before .before .loop .k in (
+      start .pre .0,
+      (let l = start .pre .1 .0 .places k (omega arith) in omega arith),
+      slots-few (start .pre .1 .0) k (joined .if1 .n) (omega arith)
+          (passed joined),
+      start .pre .1 .0 .within k (omega arith),
+    )
 
--- src/lib.rt:76:36
-sub-put-slots : tie.Need-sub-put-slots Inv-loop μ-loop
-sub-put-slots c = omega arith
-
--- src/lib.rt:76:36
-part-put-slots-start : tie.Need-part-put-slots-start Inv-loop μ-loop
-part-put-slots-start c = omega arith
-
--- src/lib.rt:76:36
-part-put-slots-end : tie.Need-part-put-slots-end Inv-loop μ-loop
-part-put-slots-end c = (let k = c .before .before .loop .k in let s = c .before .before .before .before in let l = s .pre .1 k (omega arith) in omega arith)
-
--- src/lib.rt:76:9
-put-slots-requires : tie.Need-put-slots-requires Inv-loop μ-loop
-put-slots-requires c κs = tt
-
--- src/lib.rt:77:9
 add-k : tie.Need-add-k Inv-loop μ-loop
 add-k c = omega arith
 
--- src/lib.rt:72:5
 loop-less : tie.Need-loop-less Inv-loop μ-loop
 loop-less c = omega arith
 
--- src/lib.rt:72:5
 loop-again : tie.Need-loop-again Inv-loop μ-loop
 loop-again c =
-    let s = c .before .before .before .before .before .before .before .before in
-    let a = s .args in
-    let l = c .before .before .before .before .before .before .loop in
-    let p = c .put-slots in
-    (omega arith, gather-more (now (a .image)) (now (a .places)) (l .k) (l .addresses) (l .values) (l .held) (p .last .1 .0) (p .last .1 .1 .0) (p .result) (omega arith) (l .inv .1) (p .ensures))
+    let joined = c .before .before .before .before in
+    let start = joined .before .before .before .before in
+    let a = start .args in
+    let l = joined .before .before .loop in
+    let n = joined .if1 .n in
+    let all = all-passed (start .pre .1 .0) (l .k) n (omega arith) (passed joined) in
+    (omega arith, gather-more (as-form (a .form)) (now (a .image)) (now (a .line)) (l .k) (omega arith) n all (l .inv .1) (c .put-page .ensures))
 
--- src/lib.rt:63:1
 returns : tie.Need-returns Inv-loop μ-loop
 returns c =
     let a = c .before .before .before .args in
     let l = c .before .loop in
     let e : l .k ≡ a .used = omega arith in
-    subst (λ (k : ℕ). Holds (l .addresses) (l .values) (l .held) (put-all [] (gathered (now (a .image)) (take k (now (a .places)))))) e (l .inv .1)
+    subst (λ (k : ℕ). Holds (l .addresses) (l .values) (l .held) (put-all [] (gathered (as-form (a .form)) (now (a .image)) (take k (now (a .line)))))) e
+    (l .inv .1)
 
 pub gather-spec : {M : Type 1} → statement M
 gather-spec =
-    tie.close
-    (tie.spec
-    Inv-loop
-    μ-loop
-    loop-holds
-    mul-at
-    element-copy-out-at
-    mul-at-2
-    add-slots
-    add-end
-    sub-put-slots
-    part-put-slots-start
-    part-put-slots-end
-    put-slots-requires
-    add-k
-    loop-less
-    loop-again
+    tie.close (tie.spec Inv-loop μ-loop loop-holds add-if1 element-copy-out-put-page cast-put-page put-page-requires add-k loop-less loop-again
     returns)

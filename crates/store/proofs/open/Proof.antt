@@ -1,42 +1,76 @@
-use mathlib.Core.Path.{_≡_, sym, _∙_}
+-- `store::open` meets its contract: the look, the settings of the used pages, and the number of both. Assumes nothing.
+use Prim.Native.Nat.{ℕ}
+use mathlib.Core.Path.{_≡_, sym, _∙_, subst}
+use mathlib.Core.List.{List}
 use denote.Ref.{now}
-use Rattle.rules.specs.Call.{store-number}
-use Rattle.store.proofs.Looking.{with-held-is, pages-ok}
-use Rattle.store.proofs.Opening.{over-held}
 use borrow.Author.Needs.{needs}
+use Rattle.rules.specs.Page.{Form}
+use Rattle.rules.specs.Store.{settings}
+use Rattle.rules.specs.Call.{pages, store-number}
+use Rattle.pages.specs.Read.{as-form}
+use Rattle.survey.specs.declared.Look.{Look}
+use Rattle.survey.specs.Look.{Looks}
+use Rattle.settings.specs.Held.{Holds}
+use Rattle.store.proofs.Gathering.{passes, gathered-settings}
+use Rattle.store.proofs.Opening.{with-held-is, pages-ok, over-held}
 use Rattle.store.proofs.open.Statement.{statement}
 use Rattle.store.proofs.open.Tie as tie
-use Rattle.store.proofs.open.Reads as reads
-use Rattle.store.proofs.open.Lts as lts
-use Rattle.store.proofs.look_at.Reads as look-at-reads
-use Rattle.store.proofs.number_of.Reads as number-of-reads
-use Rattle.store.proofs.settings_of.Reads as settings-of-reads
 
--- src/lib.rt:125:9
 look-at-requires : tie.Need-look-at-requires
 look-at-requires c κs = search needs
 
--- src/lib.rt:126:9
-settings-of-requires : tie.Need-settings-of-requires
-settings-of-requires c κs = search needs
+gather-requires : tie.Need-gather-requires
+gather-requires c κs =
+    let looked = c .before .before .before .before in
+    (looked .before .before .pre .0, (passes (looked .look-at .ensures), looked .before .before .pre .1))
 
--- src/lib.rt:128:17
 number-of-requires : tie.Need-number-of-requires
 number-of-requires c κs = search needs
 
--- src/lib.rt:122:1
+-- of pages that are not refused, the table has the settings
+module _ (c : tie.After-number-of) where
+  abbrev entry : tie.Start
+  entry = c .before .before .before .before .before .before .before .before
+
+  abbrev image : List ℕ
+  image = now (entry .args .image)
+
+  abbrev form : Form
+  form = as-form (entry .args .form)
+
+  abbrev look : Look
+  look = c .before .before .before .before .before .before .look-at .result
+
+  looks : Looks form image look
+  looks = c .before .before .before .before .before .before .look-at .ensures
+
+  abbrev addresses : List ℕ
+  addresses = c .before .gather .last .1 .1 .1 .1 .1 .0
+
+  abbrev values : List ℕ
+  values = c .before .gather .last .1 .1 .1 .1 .1 .1 .0
+
+  abbrev held : ℕ
+  held = c .before .gather .result
+
+  holds : look .number ≡ 0 → Holds addresses values held (settings (pages form image))
+  holds z =
+      let line = looks .told z .line in
+      subst (Holds addresses values held) (gathered-settings form image (look .line) (look .used) (line .long) line) (c .before .gather .ensures)
+
+  number : c .number-of .result ≡ store-number form image
+  number =
+      c .number-of .ensures
+      ∙ with-held-is form image (look .number) held (looks .number) (λ z. over-held form image addresses values held (holds z))
+
 returns : tie.Need-returns
 returns c =
-    let i = now (c .before .before .before .before .args .image) in
-    let l = c .before .before .look-at in
-    let st = c .before .settings-of in
-    let n = c .number-of in
-    let number : n .result ≡ store-number i = n .ensures ∙ with-held-is i (l .result .number) (st .result .held) (l .ensures .number) (λ z. over-held i (st .result .addresses) (st .result .values) (st .result .held) (st .ensures z)) in
     record {
-      number = number;
-      look = l .ensures;
-      settings = λ z. st .ensures (pages-ok i (l .result .number) (l .ensures .number) (sym number ∙ z));
+      number = number c;
+      holding = λ z.
+          let ok = pages-ok (form c) (image c) (look c .number) (looks c .number) (sym (number c) ∙ z) in
+          record { told = looks c .told ok; holds = holds c ok };
     }
 
 pub open-spec : {M : Type 1} → statement M
-open-spec = tie.close (tie.spec look-at-requires settings-of-requires number-of-requires returns)
+open-spec = tie.close (tie.spec look-at-requires gather-requires number-of-requires returns)

@@ -24,6 +24,4 @@ unfolding check
 returns c = search needs
 
 pub check-spec : {M : Type 1} → statement M
-check-spec =
-    tie.close
-    (tie.spec zeros-requires zeros-requires-2 add-result zeros-requires-3 add-result-2 returns)
+check-spec = tie.close (tie.spec zeros-requires zeros-requires-2 add-result zeros-requires-3 add-result-2 returns)

@@ -30,14 +30,4 @@ unfolding low24
 returns c = search needs
 
 pub low24-spec : {M : Type 1} → statement M
-low24-spec =
-    tie.close
-    (tie.spec
-    cast-result
-    cast-result-2
-    mul-result
-    add-result
-    cast-result-3
-    mul-result-2
-    add-result-2
-    returns)
+low24-spec = tie.close (tie.spec cast-result cast-result-2 mul-result add-result cast-result-3 mul-result-2 add-result-2 returns)

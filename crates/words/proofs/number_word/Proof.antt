@@ -21,5 +21,4 @@ unfolding number-word
 returns c = search needs
 
 pub number-word-spec : {M : Type 1} → statement M
-number-word-spec =
-    tie.close (tie.spec cast-checked cast-checked-2 cast-checked-3 checked-requires returns)
+number-word-spec = tie.close (tie.spec cast-checked cast-checked-2 cast-checked-3 checked-requires returns)

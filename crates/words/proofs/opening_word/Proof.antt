@@ -18,5 +18,4 @@ unfolding opening-word
 returns c = search needs
 
 pub opening-word-spec : {M : Type 1} → statement M
-opening-word-spec =
-    tie.close (tie.spec mul-number-word add-number-word number-word-requires returns)
+opening-word-spec = tie.close (tie.spec mul-number-word add-number-word number-word-requires returns)

@@ -31,13 +31,4 @@ returns c = search needs
 
 pub word-at-spec : {M : Type 1} → statement M
 word-at-spec =
-    tie.close
-    (tie.spec
-    shared-slice-read-t4
-    add-t5
-    shared-slice-read-t7
-    add-t8
-    shared-slice-read-t10
-    add-t11
-    shared-slice-read-t13
-    returns)
+    tie.close (tie.spec shared-slice-read-t4 add-t5 shared-slice-read-t7 add-t8 shared-slice-read-t10 add-t11 shared-slice-read-t13 returns)

@@ -1,47 +1,41 @@
-use mathlib.Core.Path.{_∙_}
+-- `writing::append` meets its contract. Assumes nothing.
+use Prim.Native.Nat.{_+_}
 use native.Mathlib.Omega.{arith}
-use denote.Ref.{now}
-use Rattle.rules.specs.Word.{word-steps, record-word}
-use Rattle.steps.proofs.Copies.{word-steps-length}
-use Rattle.writing.proofs.Parts.{does}
 use borrow.Author.Needs.{needs}
+use Rattle.rules.specs.Word.{record-word}
+use Rattle.rules.specs.Steps.{append-steps}
+use Rattle.pages.specs.Read.{as-form}
+use Rattle.rules.proofs.Lengths.{word-length}
+use Rattle.writing.proofs.Parts.{word-part, does}
 use Rattle.writing.proofs.append.Statement.{statement}
 use Rattle.writing.proofs.append.Tie as tie
-use Rattle.writing.proofs.append.Reads as reads
-use Rattle.writing.proofs.append.Lts as lts
-use Rattle.steps.proofs.program_word.Reads as program-word-reads
-use Rattle.words.proofs.record_word.Reads as record-word-reads
-use Rattle.writing.proofs.done.Reads as done-reads
 
--- src/lib.rt:113:45
+add-program-word : tie.Need-add-program-word
+add-program-word c = search needs
+
 record-word-requires : tie.Need-record-word-requires
 record-word-requires c κs = search needs
 
--- src/lib.rt:113:5
 program-word-requires : tie.Need-program-word-requires
+unfolding append-steps
 program-word-requires c κs =
-    let s = c .before .before .before in
-    (s .pre .0, rw (c .record-word .ensures) (s .pre .1))
+    let start = c .before .before .before in
+    ((start .pre .0 .0, start .pre .0 .1, omega arith), rw (c .record-word .ensures) (start .pre .1))
 
--- src/lib.rt:114:5
 done-requires : tie.Need-done-requires
 done-requires c κs = search needs
 
--- src/lib.rt:108:1
 same-length : tie.Need-same-length
 same-length c = search needs
 
--- src/lib.rt:108:1
 returns : tie.Need-returns
+unfolding append-steps
 returns c =
-    let a = c .before .before .before .before .before .before .before .args in
-    let p = c .before .before .before .program-word in
-    let w = c .before .before .before .before .record-word in
-    let d = c .done in
-    let ss = word-steps (a .page) (a .place) (record-word (a .address) (a .value)) in
-    does (a .allowance) 2 ss (now (a .image)) (p .last .0) (d .result) (word-steps-length (a .page) (a .place) (record-word (a .address) (a .value))) (d .ensures .0) (d .ensures .1) (d .ensures .2) (rw (w .ensures) at (p .ensures .1))
+    let p = c .before .before .before in
+    let a = p .before .before .before .before .args in
+    let word = word-part (as-form (a .form)) (a .page) (3 + a .slot) (p .before .record-word .ensures) (p .program-word .ensures .0)
+    (p .program-word .ensures .1) in
+    does (word-length (a .page) (3 + a .slot) (record-word (a .address) (a .value))) word (c .done .ensures)
 
 pub append-spec : {M : Type 1} → statement M
-append-spec =
-    tie.close
-    (tie.spec record-word-requires program-word-requires done-requires same-length returns)
+append-spec = tie.close (tie.spec add-program-word record-word-requires program-word-requires done-requires same-length returns)

@@ -1,52 +1,91 @@
+-- `writing::fill` meets its contract: the opening word, the copies, the done word. Assumes nothing.
+use mathlib.Core.List.{List, _++_}
 use denote.Ref.{now}
-use Rattle.steps.specs.Copied.{copied}
-use Rattle.writing.proofs.Parts.{receiving-ready, copying-ready, filled, filled-left}
 use borrow.Author.Needs.{needs}
+use Rattle.rules.specs.Flash.{Step}
+use Rattle.rules.specs.Word.{opening-word, done-word, word-steps}
+use Rattle.rules.specs.Page.{Form, size}
+use Rattle.rules.specs.Steps.{copy-steps, fill-steps}
+use Rattle.pages.specs.Read.{as-form}
+use Rattle.steps.specs.Copied.{copied}
+use Rattle.writing.specs.Plans.{Part}
+use Rattle.writing.proofs.Parts.{word-part, part-first, part-next, part-then}
 use Rattle.writing.proofs.fill.Statement.{statement}
 use Rattle.writing.proofs.fill.Tie as tie
-use Rattle.writing.proofs.fill.Reads as reads
-use Rattle.writing.proofs.fill.Lts as lts
-use Rattle.steps.proofs.copy.Reads as copy-reads
-use Rattle.steps.proofs.program_word.Reads as program-word-reads
-use Rattle.words.proofs.opening_word.Reads as opening-word-reads
 
--- src/lib.rt:135:52
+module _ (c : tie.Start) where
+  abbrev form : Form
+  form = as-form (c .args .form)
+
+  abbrev opening : List Step
+  opening = word-steps (c .args .page) 1 (opening-word 2 (c .args .order))
+
+  abbrev copying : List Step
+  copying =
+      let a = c .args in copy-steps (a .page) 0 (copied (now (a .addresses)) (now (a .values)) (a .held) (a .address) (a .value))
+
+  abbrev ending : List Step
+  ending = word-steps (c .args .page) 2 (done-word (c .args .order))
+
+-- what the opening word left, and what the copies
+module _ (c : tie.After-program-word) where
+  abbrev start : tie.Start
+  start = c .before .before .before .before
+
+  opened : Part (form start) (start .args .left) (opening start) (now (start .args .image)) (c .program-word .last .0) (c .program-word .result)
+  opened = word-part (form start) (start .args .page) 1 (c .before .opening-word .ensures) (c .program-word .ensures .0) (c .program-word .ensures .1)
+
+module _ (c : tie.After-copy) where
+  abbrev first : tie.After-program-word
+  first = c .before .before .before .before .before .before
+
+  filled : Part (form (start first)) (start first .args .left) (opening (start first)
+      ++ copying (start first)) (now (start first .args .image)) (c .copy .last .0) (c .copy .result)
+  filled = part-then (opened first) (record { image = c .copy .ensures .1; left = c .copy .ensures .0 })
+
 opening-word-requires : tie.Need-opening-word-requires
 opening-word-requires c κs = search needs
 
--- src/lib.rt:135:9
 program-word-requires : tie.Need-program-word-requires
+unfolding fill-steps
 program-word-requires c κs =
     let s = c .before .before .before in
     let a = s .args in
-    ((s .pre .0 .0, search needs), rw (c .opening-word .ensures) (receiving-ready (a .page) (a .order) (copied (a .s .addresses) (a .s .values) (a .s .held) (a .address) (a .value)) (a .left) (now (a .image)) (s .pre .1)))
+    let i = now (a .image) in
+    let ready = part-first (size (form s)) (a .left) (opening s) (copying s) i
+    (part-first (size (form s)) (a .left) (opening s ++ copying s) (ending s) i (s .pre .1)) in
+    ((s .pre .0 .0, s .pre .0 .1, search needs), rw (c .opening-word .ensures) ready)
 
--- src/lib.rt:136:5
 copy-requires : tie.Need-copy-requires
+unfolding fill-steps
 copy-requires c κs =
-    let s = c .before .before .before .before .before .before .before in
-    let a = s .args in
-    let p = c .before .before .before .program-word in
-    let w = c .before .before .before .before .opening-word in
-    ((s .pre .0 .0, s .pre .0 .2), copying-ready (a .page) (a .order) (copied (a .s .addresses) (a .s .values) (a .s .held) (a .address) (a .value)) (a .left) (now (a .image)) (p .result) (p .ensures .0) (p .last .0) (rw (w .ensures) at (p .ensures .1)) (s .pre .1))
+    let p = c .before .before .before .before .before in
+    let s = start p in
+    let ready = part-first (size (form s)) (s .args .left) (opening s ++ copying s) (ending s) (now (s .args .image)) (s .pre .1) in
+    ((s .pre .0 .0, s .pre .0 .1, s .pre .0 .3), part-next (opened p) (copying s) ready)
 
--- src/lib.rt:129:1
+done-word-requires : tie.Need-done-word-requires
+done-word-requires c κs = search needs
+
+program-word-requires-2 : tie.Need-program-word-requires-2
+unfolding fill-steps
+program-word-requires-2 c κs =
+    let q = c .before .before .before .before in
+    let s = start (first q) in
+    ((s .pre .0 .0, s .pre .0 .1, search needs), rw (c .done-word .ensures) (part-next (filled q) (ending s) (s .pre .1)))
+
 same-length : tie.Need-same-length
 same-length c = search needs
 
--- src/lib.rt:129:1
 returns : tie.Need-returns
+unfolding fill-steps
 returns c =
-    let a = c .before .before .before .before .before .before .before .before .before .before .args in
-    let p = c .before .before .before .before .before .before .program-word in
-    let w = c .before .before .before .before .before .before .before .opening-word in
-    let q = c .before .before .copy in
-    let e = rw (w .ensures) at (p .ensures .1) in (
-      filled-left (a .page) (a .order) (copied (a .s .addresses) (a .s .values) (a .s .held) (a .address) (a .value)) (a .left) (now (a .image)) (p .result) (p .ensures .0) (p .last .0) e (q .result) (q .ensures .0),
-      filled (a .page) (a .order) (copied (a .s .addresses) (a .s .values) (a .s .held) (a .address) (a .value)) (a .left) (now (a .image)) (p .result) (p .ensures .0) (p .last .0) e (q .last .0) (q .ensures .1),
-    )
+    let d = c .before .before in
+    let q = d .before .before .before .before .before in
+    part-then (filled q)
+    (word-part (form (start (first q))) (start (first q) .args .page) 2 (d .before .done-word .ensures) (d .program-word2 .ensures .0)
+    (d .program-word2 .ensures .1))
 
 pub fill-spec : {M : Type 1} → statement M
 fill-spec =
-    tie.close
-    (tie.spec opening-word-requires program-word-requires copy-requires same-length returns)
+    tie.close (tie.spec opening-word-requires program-word-requires copy-requires done-word-requires program-word-requires-2 same-length returns)

@@ -1,68 +1,72 @@
+-- `writing::open_page` meets its contract: the opening word, and then the record. Assumes nothing.
+use mathlib.Core.List.{List}
+use native.Mathlib.Omega.{arith}
 use denote.Ref.{now}
-use Rattle.writing.proofs.Parts.{does, opening-ready, recording-ready, recorded, opening-long}
-use Rattle.writing.specs.Plans.{opening-plan}
 use borrow.Author.Needs.{needs}
+use Rattle.rules.specs.Flash.{Step}
+use Rattle.rules.specs.Word.{opening-word, record-word, word-steps}
+use Rattle.rules.specs.Page.{size}
+use Rattle.rules.specs.Steps.{open-steps}
+use Rattle.pages.specs.Read.{as-form}
+use Rattle.writing.specs.Plans.{Part}
+use Rattle.rules.proofs.Lengths.{open-long}
+use Rattle.writing.proofs.Parts.{word-part, part-first, part-next, part-then, does}
 use Rattle.writing.proofs.open_page.Statement.{statement}
 use Rattle.writing.proofs.open_page.Tie as tie
-use Rattle.writing.proofs.open_page.Reads as reads
-use Rattle.writing.proofs.open_page.Lts as lts
-use Rattle.steps.proofs.program_word.Reads as program-word-reads
-use Rattle.words.proofs.opening_word.Reads as opening-word-reads
-use Rattle.words.proofs.record_word.Reads as record-word-reads
-use Rattle.writing.proofs.done.Reads as done-reads
 
--- src/lib.rt:123:52
+module _ (c : tie.Start) where
+  abbrev opening : List Step
+  opening = word-steps (c .args .page) 1 (opening-word 1 (c .args .order))
+
+  abbrev recording : List Step
+  recording = word-steps (c .args .page) 3 (record-word (c .args .address) (c .args .value))
+
+-- what the first word left
+opened : (c : tie.After-program-word)
+    → Part (as-form (c .before .before .before .before .args .form)) (c .before .before .before .before .args .allowance)
+    (opening (c .before .before .before .before)) (now (c .before .before .before .before .args .image)) (c .program-word .last .0)
+    (c .program-word .result)
+opened c = word-part (as-form (c .before .before .before .before .args .form)) (c .before .before .before .before .args .page) 1
+    (c .before .opening-word .ensures) (c .program-word .ensures .0) (c .program-word .ensures .1)
+
 opening-word-requires : tie.Need-opening-word-requires
 opening-word-requires c κs = search needs
 
--- src/lib.rt:123:9
 program-word-requires : tie.Need-program-word-requires
+unfolding open-steps
 program-word-requires c κs =
     let s = c .before .before .before in
-    let a = s .args in
-    ((s .pre .0 .0, search needs), rw (c .opening-word .ensures) (opening-ready (a .page) (a .order) (a .address) (a .value) (a .allowance) (now (a .image)) (s .pre .1)))
+    let a = s .args in (
+      (s .pre .0 .0, s .pre .0 .1, search needs),
+      rw (c .opening-word .ensures)
+          (part-first (size (as-form (a .form))) (a .allowance) (opening s) (recording s) (now (a .image)) (s .pre .1)),
+    )
 
--- src/lib.rt:124:41
 record-word-requires : tie.Need-record-word-requires
 record-word-requires c κs = search needs
 
--- src/lib.rt:124:5
 program-word-requires-2 : tie.Need-program-word-requires-2
+unfolding open-steps
 program-word-requires-2 c κs =
-    let s = c .before .before .before .before .before .before .before .before in
-    let a = s .args in
-    let p = c .before .before .before .before .program-word in
-    let w = c .before .before .before .before .before .opening-word in
-    ((s .pre .0 .0, search needs), rw (c .record-word .ensures) (recording-ready (a .page) (a .order) (a .address) (a .value) (a .allowance) (now (a .image)) (p .result) (p .ensures .0) (p .last .0) (rw (w .ensures) at (p .ensures .1)) (s .pre .1)))
+    let p = c .before .before .before .before in
+    let s = p .before .before .before .before in
+    ((s .pre .0 .0, s .pre .0 .1, (let roomy = s .pre .0 .0 .0 in omega arith)), rw (c .record-word .ensures) (part-next (opened p) (recording s) (s .pre .1)))
 
--- src/lib.rt:125:5
 done-requires : tie.Need-done-requires
 done-requires c κs = search needs
 
--- src/lib.rt:118:1
 same-length : tie.Need-same-length
 same-length c = search needs
 
--- src/lib.rt:118:1
 returns : tie.Need-returns
+unfolding open-steps
 returns c =
-    let a = c .before .before .before .before .before .before .before .before .before .before .before .before .args in
-    let p = c .before .before .before .before .before .before .before .before .program-word in
-    let w = c .before .before .before .before .before .before .before .before .before .opening-word in
-    let q = c .before .before .before .program-word2 in
-    let x = c .before .before .before .before .record-word in
-    let d = c .done in
-    does (a .allowance) 4 (opening-plan (a .page) (a .order) (a .address) (a .value)) (now (a .image)) (q .last .0) (d .result) (opening-long (a .page) (a .order) (a .address) (a .value) (a .allowance) (now (a .image))) (d .ensures .0) (d .ensures .1) (d .ensures .2)
-    (recorded (a .page) (a .order) (a .address) (a .value) (a .allowance) (now (a .image)) (p .result) (p .ensures .0) (p .last .0) (rw (w .ensures) at (p .ensures .1)) (q .last .0) (rw (x .ensures) at (q .ensures .1)))
+    let q = c .before .before .before in
+    let p = q .before .before .before .before .before in
+    let a = p .before .before .before .before .args in
+    let recorded = word-part (as-form (a .form)) (a .page) 3 (q .before .record-word .ensures) (q .program-word2 .ensures .0) (q .program-word2 .ensures .1) in
+    does (open-long (a .page) (a .order) (a .address) (a .value)) (part-then (opened p) recorded) (c .done .ensures)
 
 pub open-page-spec : {M : Type 1} → statement M
 open-page-spec =
-    tie.close
-    (tie.spec
-    opening-word-requires
-    program-word-requires
-    record-word-requires
-    program-word-requires-2
-    done-requires
-    same-length
-    returns)
+    tie.close (tie.spec opening-word-requires program-word-requires record-word-requires program-word-requires-2 done-requires same-length returns)

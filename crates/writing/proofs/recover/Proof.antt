@@ -1,108 +1,106 @@
-use Prim.Native.Nat.{ℕ, _*_}
-use mathlib.Core.Path.{_≡_, refl, sym, _∙_}
+-- `writing::recover` meets its contract: the pages that the look told as unclean are the rules', so many. Assumes nothing.
+use Prim.Native.Nat.{ℕ, _-_, _*_}
+use mathlib.Core.Path.{_≡_, sym, _∙_}
+use mathlib.Core.List.{List}
 use native.Mathlib.Omega.{arith}
 use denote.Ref.{now}
+use borrow.Author.Needs.{needs}
+use Rattle.rules.specs.Page.{Form}
 use Rattle.rules.specs.Store.{states, base, count}
 use Rattle.rules.specs.Steps.{unclean}
 use Rattle.rules.specs.Call.{pages, store-number}
-use Rattle.writing.proofs.Recovering.{look-few, look-within, cleared-count, counted-all, recovered, not-recovered}
-use borrow.Author.Needs.{needs}
+use Rattle.pages.specs.Read.{as-form}
+use Rattle.survey.specs.declared.Look.{Look}
+use Rattle.survey.specs.Look.{Told}
+use Rattle.settings.proofs.Tables.{holds-none}
+use Rattle.store.specs.Opened.{Opens}
+use Rattle.store.proofs.Values.{store-ok, look-told}
+use Rattle.writing.proofs.Recovering.{look-few, look-within, counted-all, recovered, not-recovered}
 use Rattle.writing.proofs.recover.Statement.{statement}
 use Rattle.writing.proofs.recover.Tie as tie
-use Rattle.writing.proofs.recover.Reads as reads
-use Rattle.writing.proofs.recover.Lts as lts
-use Rattle.store.proofs.open.Reads as open-reads
-use Rattle.writing.proofs.done.Reads as done-reads
-use Rattle.writing.proofs.refused.Reads as refused-reads
-use Rattle.writing.proofs.renew_unclean.Reads as renew-unclean-reads
-use Rattle.writing.proofs.unclean_count.Reads as unclean-count-reads
 
--- src/lib.rt:91:9
+module _ (c : tie.After-open) where
+  abbrev entry : tie.Start
+  entry = c .before .before .before .before .before
+
+  abbrev image : List ℕ
+  image = now (entry .args .image)
+
+  abbrev form : Form
+  form = as-form (entry .args .form)
+
+  abbrev look : Look
+  look = c .«open» .result .look
+
+  opens : Opens form image (c .«open» .result) (c .«open» .last .1 .1 .0) (c .«open» .last .1 .1 .1 .0)
+  opens = c .«open» .ensures
+
+module _ (c : tie.Else1) where
+  ok : store-number (form (c .before)) (image (c .before)) ≡ 0
+  ok = store-ok (opens (c .before)) (c .if1 .left)
+
+  told : Told (form (c .before)) (image (c .before)) (look (c .before))
+  told = look-told (opens (c .before)) (c .if1 .left)
+
 open-requires : tie.Need-open-requires
-open-requires c κs = search needs
+open-requires c κs = (c .before .before .before .before .pre, holds-none)
 
--- src/lib.rt:94:9
 refused-requires : tie.Need-refused-requires
 refused-requires c κs = search needs
 
--- src/lib.rt:94:9
 same-length : tie.Need-same-length
 same-length c = search needs
 
--- src/lib.rt:94:9
 returns : tie.Need-returns
 returns c =
-    let a = c .before .before .before .before .before .args in
-    let i = now (a .image) in
-    let o = c .before .before .«open» in
-    let r = c .refused in
-    let ne : store-number i ≡ 0 → ⊥ = λ e. c .before .if1 .taken (o .ensures .number ∙ e) in
-    rw (r .ensures .0, r .ensures .1, r .ensures .2, o .ensures .number) (sym (not-recovered i (a .allowance) ne))
+    let first = c .before .before in
+    let o = opens first in
+    let r = c .refused .ensures in
+    rw (r .0, r .1, r .2, o .number)
+    (sym (not-recovered (form first) (image first) (entry first .args .allowance) (λ e. c .before .if1 .taken (o .number ∙ e))))
 
--- src/lib.rt:97:9
-unclean-count-requires : tie.Need-unclean-count-requires
-unclean-count-requires c κs =
-    let i = now (c .before .before .before .before .before .args .image) in
-    let o = c .before .before .«open» in
-    let ok : store-number i ≡ 0 = sym (o .ensures .number) ∙ c .before .if1 .left in
-    let l = o .result .look in
-    let n = cleared-count i l (o .ensures .look) ok _ refl in
-    let e = counted-all i l (o .ensures .look) ok _ n in
-    (look-few i l (o .ensures .look) ok, omega arith)
+sub-renewed : tie.Need-sub-renewed
+sub-renewed c = omega (arith, counted-all (told c) (ok c))
 
--- src/lib.rt:98:5
-renew-unclean-requires : tie.Need-renew-unclean-requires
-renew-unclean-requires c κs =
-    let i = now (c .before .before .before .before .before .before .before .args .image) in
-    let o = c .before .before .before .before .«open» in
-    let ok : store-number i ≡ 0 = sym (o .ensures .number) ∙ c .before .before .before .if1 .left in
-    (look-few i (o .result .look) (o .ensures .look) ok, look-within i (o .result .look) (o .ensures .look) ok)
+sub-renewed-2 : tie.Need-sub-renewed-2
+sub-renewed-2 c = omega (arith, counted-all (told c) (ok c))
 
--- src/lib.rt:99:10
+unclean-requires : tie.Need-unclean-requires
+unclean-requires c κs = let right = c .before .before .before in look-few (told right) (ok right)
+
+renew-picked-requires : tie.Need-renew-picked-requires
+renew-picked-requires c κs =
+    let right = c .before .before .before .before .before in
+    (entry (right .before) .pre, look-few (told right) (ok right), look-within (told right) (ok right))
+
+cast-done : tie.Need-cast-done
+cast-done c =
+    let right = c .before .before .before .before .before .before .before .before in omega (arith, look-few (told right) (ok right))
+
 mul-done : tie.Need-mul-done
 mul-done c =
-    let i = now (c .before .before .before .before .before .before .before .before .before .before .args .image) in
-    let o = c .before .before .before .before .before .before .before .«open» in
-    let ok : store-number i ≡ 0 = sym (o .ensures .number) ∙ c .before .before .before .before .before .before .if1 .left in
-    let l = look-few i (o .result .look) (o .ensures .look) ok in
-    let e = c .before .before .before .before .unclean-count .ensures in
-    omega arith
+    let right = c .before .before .before .before .before .before .before .before in omega (arith, look-few (told right) (ok right))
 
--- src/lib.rt:99:5
 done-requires : tie.Need-done-requires
 done-requires c κs = search needs
 
--- src/lib.rt:88:1
 same-length-2 : tie.Need-same-length-2
 same-length-2 c = search needs
 
--- src/lib.rt:88:1
 returns-2 : tie.Need-returns-2
 returns-2 c =
-    let a = c .before .before .before .before .before .before .before .before .before .before .before .args in
-    let i = now (a .image) in
-    let o = c .before .before .before .before .before .before .before .before .«open» in
-    let ok : store-number i ≡ 0 = sym (o .ensures .number) ∙ c .before .before .before .before .before .before .before .if1 .left in
-    let l = o .result .look in
-    let u = c .before .before .before .before .before .unclean-count in
-    let d = c .done in
-    let r = c .before .before .before .renew-unclean in
-    let n = cleared-count i l (o .ensures .look) ok _ refl in
-    let e = counted-all i l (o .ensures .look) ok _ n in
-    let t : 3 * u .result ≡ 3 * count (unclean (base (states (pages i)))) (states (pages i)) = omega (arith, u .ensures) in
-    rw (d .ensures .0, d .ensures .1, d .ensures .2) (sym (recovered i l (o .ensures .look) ok (3 * u .result) (a .allowance) (r .last .0) _ refl t (r .ensures)))
+    let renewed = c .before .before .before in
+    let picks = renewed .before .before in
+    let right = picks .before .before .before .before in
+    let i = image (right .before) in
+    let l = look (right .before) in
+    let all = states (pages (form (right .before)) i) in
+    let total : 3 * (l .count - l .used - l .cleared) ≡ 3 * count (unclean (base all)) all = omega (arith, counted-all (told right) (ok right)) in
+    let d = c .done .ensures in
+    rw (d .0, d .1, d .2)
+    (sym (recovered (told right) (ok right) (picks .unclean .result) (picks .unclean .ensures) _ _ _ total (renewed .renew-picked .ensures .1)))
 
 pub recover-spec : {M : Type 1} → statement M
 recover-spec =
-    tie.close
-    (tie.spec
-    open-requires
-    refused-requires
-    same-length
-    returns
-    unclean-count-requires
-    renew-unclean-requires
-    mul-done
-    done-requires
-    same-length-2
-    returns-2)
+    tie.close (tie.spec open-requires refused-requires same-length returns sub-renewed sub-renewed-2 unclean-requires renew-picked-requires cast-done
+    mul-done done-requires same-length-2 returns-2)

@@ -1,2 +1,0 @@
-pub mod Ranks
-pub mod Places

@@ -1,0 +1,87 @@
+-- The slots of the page at an index of an image: as the rules have them, and as the part of the image that the code lends. Assumes
+-- nothing.
+use Prim.Native.Nat.{ℕ, zero, suc, _+_, _-_, _*_, _≤_, _<_}
+use mathlib.Core.Path.{_≡_, refl, sym, ap, _∙_}
+use mathlib.Core.List.{List, [], _∷_}
+use native.Mathlib.Omega.{arith}
+use lib.ListN.{length, getD, take, drop, length-drop, List·getD-map}
+use lib.Seq.{take-nil, take-take, drop-drop}
+use Rattle.rules.specs.Flash.{bytes-at}
+use Rattle.rules.specs.Word.{Word, word, words}
+use Rattle.rules.specs.Page.{Form, word-count, size, Page, page, slots}
+use Rattle.rules.specs.Store.{slots-at}
+use Rattle.rules.specs.Call.{page-count, cut, pages}
+use Rattle.rules.proofs.Cut.{cut-page, words-length, bytes-at-length, pages-long, next-words}
+use Rattle.pages.proofs.Header.{slots-at as slots-behind}
+use Rattle.survey.specs.States.{slots-in}
+
+-- ---- in the store
+
+slots-there : (k : ℕ) (ps : List Page) (d : Page) → k < length ps → slots-at k ps ≡ getD ps k d .slots
+unfolding slots-at
+slots-there k [] d l = absurd (omega arith)
+slots-there zero (p ∷ ps) d l = refl
+slots-there (suc k) (p ∷ ps) d l = slots-there k ps d (omega arith)
+
+module _ (fm : Form) (k : ℕ) (i : List ℕ) (l : k < page-count fm i) where
+  pub page-slots : getD (pages fm i) k (page (fm .edition) []) .slots ≡ slots-in fm k i
+  unfolding pages page slots-in
+  page-slots =
+      ap (λ (p : Page). p .slots)
+      (List·getD-map (page (fm .edition)) (cut (size fm) (page-count fm i) i) k [] ∙ ap (page (fm .edition)) (cut-page (size fm) (page-count fm i) k i l))
+
+  pub slots-are : slots-at k (pages fm i) ≡ slots-in fm k i
+  slots-are = slots-there k (pages fm i) (page (fm .edition) []) (omega (arith, pages-long fm i)) ∙ page-slots
+
+pub slots-many : (fm : Form) (k : ℕ) (i : List ℕ) → k * size fm + size fm ≤ length i → length (slots-in fm k i) ≡ fm .slot-count
+unfolding slots-in slots
+slots-many fm k i l =
+    let e : length (words (bytes-at (k * size fm) (size fm) i)) ≡ word-count fm = words-length (word-count fm) (bytes-at (k * size fm) (size fm) i)
+    (bytes-at-length (k * size fm) (size fm) i l) in
+    length-drop 3 (words (bytes-at (k * size fm) (size fm) i)) ∙ omega arith
+
+-- ---- as the part that the code lends
+
+take-words : (k : ℕ) (s : List ℕ) → words (take (4 * k) s) ≡ take k (words s)
+unfolding words
+take-words zero s = refl
+take-words (suc k) [] = rw (next-words k)
+take-words (suc k) (a ∷ []) = rw (next-words k)
+take-words (suc k) (a ∷ b ∷ []) = rw (next-words k)
+take-words (suc k) (a ∷ b ∷ c ∷ []) = rw (next-words k)
+take-words (suc k) (a ∷ b ∷ c ∷ d ∷ s) = rw (next-words k) (ap (λ (ws : List Word). word a b c d ∷ ws) (take-words k s))
+
+drop-take : {A : Type 0} (m n : ℕ) (l : List A) → drop m (take n l) ≡ take (n - m) (drop m l)
+drop-take zero n l = let e : n ≡ n - 0 = omega arith in ap (λ (x : ℕ). take x l) e
+drop-take (suc m) zero l = let e : 0 ≡ 0 - suc m = omega arith in ap (λ (x : ℕ). take x (drop (suc m) l)) e
+drop-take (suc m) (suc n) [] = sym (take-nil (suc n - suc m))
+drop-take (suc m) (suc n) (x ∷ l) =
+    let e : n - m ≡ suc n - suc m = omega arith in drop-take m n l ∙ ap (λ (y : ℕ). take y (drop m l)) e
+
+-- the slots are the words of the bytes behind the header
+slots-from : (fm : Form) (k : ℕ) (i : List ℕ) → slots-in fm k i ≡ words (take (4 * fm .slot-count) (drop (k * size fm + 12) i))
+unfolding slots-in bytes-at
+slots-from fm k i =
+    sym (slots-behind (take (size fm) (drop (k * size fm) i)))
+    ∙ ap words (drop-take 12 (size fm) (drop (k * size fm) i) ∙ ap (λ (m : ℕ). take m (drop 12 (drop (k * size fm) i))) (behind (fm .slot-count))
+    ∙ ap (take (4 * fm .slot-count)) (drop-drop 12 (k * size fm) i))
+  where
+    behind : (n : ℕ) → 4 * suc (suc (suc n)) - 12 ≡ 4 * n
+    behind n = omega arith
+
+-- the first n of them
+pub slots-part : (fm : Form) (k n : ℕ) (i : List ℕ) (from to : ℕ) → n ≤ fm .slot-count → from ≡ k * size fm + 12 → to ≡ from + n * 4
+    → words (take (to - from) (drop from i)) ≡ take n (slots-in fm k i)
+slots-part fm k n i from to h ef et =
+    let part = drop (k * size fm + 12) i in
+    let long : to - from ≡ 4 * n = omega arith in
+    rw (long, ef)
+    (ap words (sym (take-take (4 * n) (4 * fm .slot-count) part (omega arith))) ∙ take-words n (take (4 * fm .slot-count) part)
+    ∙ ap (take n) (sym (slots-from fm k i)))
+
+-- all of them
+pub slots-whole : (fm : Form) (k : ℕ) (i : List ℕ) (from to : ℕ) → from ≡ k * size fm + 12 → to ≡ from + fm .slot-count * 4
+    → words (take (to - from) (drop from i)) ≡ slots-in fm k i
+slots-whole fm k i from to ef et =
+    let long : to - from ≡ 4 * fm .slot-count = omega arith in
+    rw (long, ef) (sym (slots-from fm k i))
