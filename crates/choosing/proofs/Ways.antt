@@ -15,12 +15,13 @@ use Rattle.rules.specs.Call.{page-count, pages, wrong-size, store-number, write
 use Rattle.rules.specs.Call.{order-limit, ORDER-END}
 use Rattle.rules.proofs.Cut.{page-within, pages-long}
 use Rattle.rules.proofs.Truth.{by-cases}
-use Rattle.rules.proofs.Stores.{length-states, count-all}
+use Rattle.rules.proofs.Stores.{length-states}
 use Rattle.rules.proofs.Ready.{right-sizes, size-right, active-within, taken-within}
 use Rattle.rules.proofs.Answers.{not-accepted, write-end, write-ok}
 use Rattle.survey.specs.declared.Look.{Look}
 use Rattle.survey.specs.Look.{Told}
 use Rattle.survey.proofs.Slots.{slots-are, slots-many}
+use Rattle.survey.proofs.Looking.{counted}
 use Rattle.choosing.specs.declared.Way.{Way}
 use Rattle.choosing.specs.declared.Way.the-variants.{Refuse, Stay, Append, Open, Move}
 use Rattle.choosing.specs.Candidate.{chosen}
@@ -85,19 +86,16 @@ module _ {fm : Form} {i : List ℕ} {look : Look} (t : Told fm i look) (ok : sto
   few : length all ≤ 32
   few = omega (arith, all-long, t .counts, right-sizes fm i sized .most)
 
-  counted : look .used + look .cleared + count (unclean (base all)) all ≡ look .count
-  counted = omega (arith, count-all (base all) all, t .uses, t .clears, all-long)
-
   pub used-few : look .used + look .cleared ≤ 32
-  used-few = omega (arith, counted, all-long, few)
+  used-few = omega (arith, counted t, all-long, few)
 
   pub some-unclean : look .used + look .cleared < look .count → is-unclean all ≡ true
   unfolding is-unclean
-  some-unclean l = let e = counted in rw (ne-eqb (count (unclean (base all)) all) 0 (λ z. omega arith))
+  some-unclean l = let e = counted t in rw (ne-eqb (count (unclean (base all)) all) 0 (λ z. omega arith))
 
   pub none-unclean : look .count ≤ look .used + look .cleared → is-unclean all ≡ false
   unfolding is-unclean
-  none-unclean l = let e = counted in rw (eq-eqb (count (unclean (base all)) all) 0 (omega arith))
+  none-unclean l = let e = counted t in rw (eq-eqb (count (unclean (base all)) all) 0 (omega arith))
 
   -- ---- the slots of the active page
 

@@ -74,7 +74,8 @@ fn put_settings<'a>(
     held: usize,
 ) -> usize
     requires { ⌜ (held ≤ 192) × (at + held * 18 ≤ length (now out)) ⌝ }
-    ensures { λ r. ⌜ ((t : List Setting) → Holds (now (addresses .entry)) (now (values .entry)) held t → Appends (now (out .entry)) at (setting-lines t) (now (out .exit)) r) ⌝ }
+    ensures { λ r. ⌜ ((t : List Setting) → Holds (now (addresses .entry)) (now (values .entry)) held t
+        → Appends (now (out .entry)) at (setting-lines t) (now (out .exit)) r) ⌝ }
 {
     let mut end = at;
     let mut i = 0;

@@ -43,7 +43,8 @@ fn value_or_blank<'a>(
     values: &'a [u8; HELD_MAX],
     address: u16,
 ) -> u8
-    ensures { λ r. ⌜ ((t : List Setting) (held : ℕ) → Rising t → length t ≤ 192 → address < 65535 → Holds (now (addresses .entry)) (now (values .entry)) held t → r ≡ or-value (last-of address t) not-held-value) ⌝ }
+    ensures { λ r. ⌜ ((t : List Setting) (held : ℕ) → Rising t → length t ≤ 192 → address < 65535
+        → Holds (now (addresses .entry)) (now (values .entry)) held t → r ≡ or-value (last-of address t) not-held-value) ⌝ }
 {
     match settings::value_in(addresses, values, address) {
         Held::Value(value) => value,

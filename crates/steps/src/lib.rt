@@ -71,7 +71,8 @@ pub fn renew_all(image: &mut [u8], form: Form, n: usize)
 pub fn renew_worn(image: &mut [u8], form: Form, page: usize, left: u16) -> u16
     requires { ⌜ Lawful form × (page < 32) × (page * size (as-form form) + size (as-form form) ≤ length (now image)) ⌝ }
     ensures { λ r. ⌜ r ≡ left - 3 ⌝ }
-    ensures { λ r. ⌜ now (image .exit) ≡ run (size (as-form form)) (take left (renew (form .edition) page (wear-at (as-form form) page (now (image .entry))))) (now (image .entry)) ⌝ }
+    ensures { λ r. ⌜ now (image .exit) ≡ run (size (as-form form)) (take left (renew (form .edition) page (wear-at (as-form form) page (now (image .entry)))))
+        (now (image .entry)) ⌝ }
 {
     let at = form.start(page);
     let end = at + form.size();
@@ -83,7 +84,8 @@ pub fn renew_worn(image: &mut [u8], form: Form, page: usize, left: u16) -> u16
 pub fn renew_picked(image: &mut [u8], form: Form, n: usize, picks: [bool; 32], left: u16) -> u16
     requires { ⌜ Lawful form × (n ≤ 32) × (n * size (as-form form) ≤ length (now image)) ⌝ }
     ensures { λ r. ⌜ r ≡ left - length (picked-steps (as-form form) n picks (now (image .entry))) ⌝ }
-    ensures { λ r. ⌜ now (image .exit) ≡ run (size (as-form form)) (take left (picked-steps (as-form form) n picks (now (image .entry)))) (now (image .entry)) ⌝ }
+    ensures { λ r. ⌜ now (image .exit) ≡ run (size (as-form form)) (take left (picked-steps (as-form form) n picks (now (image .entry))))
+        (now (image .entry)) ⌝ }
 {
     let mut rest = left;
     let mut i = 0;
@@ -111,7 +113,8 @@ pub fn copy(
     requires { ⌜ Lawful form × (page < 32) × (held ≤ 192) ⌝ }
     requires { ⌜ AllAllowed (size (as-form form)) (take left (copy-steps page 0 (copied addresses values held address value))) (now image) ⌝ }
     ensures { λ r. ⌜ r ≡ left - length (copy-steps page 0 (copied addresses values held address value)) ⌝ }
-    ensures { λ r. ⌜ now (image .exit) ≡ run (size (as-form form)) (take left (copy-steps page 0 (copied addresses values held address value))) (now (image .entry)) ⌝ }
+    ensures { λ r. ⌜ now (image .exit) ≡ run (size (as-form form)) (take left (copy-steps page 0 (copied addresses values held address value)))
+        (now (image .entry)) ⌝ }
 {
     let mut rest = left;
     let mut place = 3;

@@ -29,7 +29,8 @@ fn put_page(
     held: usize,
 ) -> usize
     requires { ⌜ Lawful form × (page ≤ 32) × (n ≤ form .slots) × (page * size (as-form form) + size (as-form form) ≤ length (now image)) ⌝ }
-    ensures { λ r. ⌜ Become (λ t. put-all t (records (take n (slots-in (as-form form) page (now (image .entry)))))) (now (addresses .entry)) (now (values .entry)) held (now (addresses .exit)) (now (values .exit)) r ⌝ }
+    ensures { λ r. ⌜ Become (λ t. put-all t (records (take n (slots-in (as-form form) page (now (image .entry))))))
+        (now (addresses .entry)) (now (values .entry)) held (now (addresses .exit)) (now (values .exit)) r ⌝ }
 {
     let at = form.start(page) + HEADER_SIZE;
     let end = at + n * 4;
@@ -50,7 +51,8 @@ fn gather(
     requires { ⌜ Lawful form ⌝ }
     requires { ⌜ Passes (as-form form) (now image) (now line) used free ⌝ }
     requires { ⌜ Holds (now addresses) (now values) 0 [] ⌝ }
-    ensures { λ r. ⌜ Holds (now (addresses .exit)) (now (values .exit)) r (put-all [] (gathered (as-form form) (now (image .entry)) (take used (now (line .entry))))) ⌝ }
+    ensures { λ r. ⌜ Holds (now (addresses .exit)) (now (values .exit)) r
+        (put-all [] (gathered (as-form form) (now (image .entry)) (take used (now (line .entry))))) ⌝ }
 {
     let mut held = 0;
     let mut k = 0;

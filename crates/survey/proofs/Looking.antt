@@ -10,18 +10,20 @@ use lib.Dec.{eqb}
 use borrow.Author.Tests.{eqb-true, eqb-false, eq-eqb, ne-eqb}
 use Rattle.rules.specs.Page.{Form, size, State}
 use Rattle.rules.specs.Store.{Under, states, base, used, is-open, is-cleared, used-orders, count, active-index, active-order, active-slots, slots-at, free-slot}
+use Rattle.rules.specs.Steps.{unclean}
 use Rattle.rules.specs.Call.{first-of, page-count, pages, wrong-size, no-store, repeats, all-used, OK, NO-STORE, DAMAGED}
 use Rattle.rules.proofs.Cut.{page-within, pages-long}
 use Rattle.rules.proofs.Truth.{by-cases, or-false-left}
 use Rattle.rules.proofs.Rows.{AllFail, all-fail}
-use Rattle.rules.proofs.Stores.{orders-used, count-all, count-open, count-used}
+use Rattle.rules.proofs.Stores.{length-states, orders-used, count-all, count-open, count-used}
 use Rattle.rules.proofs.Ready.{right-sizes, some-used}
 use Rattle.pages.specs.Read.{as-state}
 use Rattle.pages.specs.declared.State.{State as Code}
 use Rattle.survey.specs.States.{Counted, first-states, filled, OrdersFit, slots-in}
 use Rattle.survey.specs.Ranks.{rank, spare, padded, ranks, spares}
 use Rattle.survey.specs.Places.{taken-places, doubled, lined, Falls, at-places}
-use Rattle.survey.specs.Look.{pages-rows, pages-number, counted-number, Lines}
+use Rattle.survey.specs.declared.Look.{Look}
+use Rattle.survey.specs.Look.{pages-rows, pages-number, counted-number, Lines, Told}
 use Rattle.survey.proofs.Arrays.{getD-padded}
 use Rattle.survey.proofs.Padded.{newest-padded}
 use Rattle.survey.proofs.Sizes.{counted-none, counted-some}
@@ -238,3 +240,10 @@ module _ {fm : Form} {i : List ℕ} {n u : ℕ} {xs : List Code} {rs : List ℕ}
 
     pub cleared-told : {c : ℕ} → c ≡ taken-places (take 32 sp) → c ≡ count is-cleared all
     cleared-told q = q ∙ ap (λ (ys : List ℕ). taken-places (take 32 ys)) spares-told ∙ count-spares all few
+
+-- each page is used, cleared or unclean
+pub counted : {fm : Form} {i : List ℕ} {look : Look} → Told fm i look
+    → look .used + look .cleared + count (unclean (base (states (pages fm i)))) (states (pages fm i)) ≡ look .count
+counted {fm} {i} t =
+    let all = states (pages fm i) in
+    omega (arith, count-all (base all) all, t .uses, t .clears, length-states (pages fm i), pages-long fm i, t .counts)

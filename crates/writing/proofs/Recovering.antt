@@ -12,7 +12,6 @@ use Rattle.rules.specs.Store.{states, base, count}
 use Rattle.rules.specs.Steps.{renew, renewed-wear, add-steps, renewals, unclean, recovery-steps}
 use Rattle.rules.specs.Call.{pages, cut, store-number, recover}
 use Rattle.rules.proofs.Truth.{by-cases}
-use Rattle.rules.proofs.Stores.{length-states, count-all}
 use Rattle.rules.proofs.Ready.{size-right, right-sizes, Sizes}
 use Rattle.rules.proofs.Answers.{stepped-refused, stepped-done}
 use Rattle.rules.proofs.Cut.{pages-long}
@@ -67,9 +66,6 @@ module _ {fm : Form} {i : List ℕ} {look : Look} (t : Told fm i look) (ok : sto
 
   pub look-within : look .count * size fm ≤ length i
   look-within = rw (t .counts) (omega (arith, sizes .sized))
-
-  pub counted-all : look .used + look .cleared + count (unclean (base all)) all ≡ look .count
-  counted-all = omega (arith, count-all (base all) all, t .uses, t .clears, length-states (pages fm i), pages-long fm i, t .counts)
 
   module _ (picks : List Bool) (e : picks ≡ picked (neither-at (look .ranks) (look .spares)) (look .count)) where
     -- the pages that are picked are the unclean ones

@@ -207,8 +207,10 @@ fn fill<'a>(
     left: u16,
 ) -> u16
     requires { ⌜ Lawful form × (page < 32) × (order < 4194304) × (held ≤ 192) ⌝ }
-    requires { ⌜ AllAllowed (size (as-form form)) (take left (fill-steps page order (copied (now addresses) (now values) held address value))) (now image) ⌝ }
-    ensures { λ r. ⌜ Part (as-form form) left (fill-steps page order (copied (now (addresses .entry)) (now (values .entry)) held address value)) (now (image .entry)) (now (image .exit)) r ⌝ }
+    requires { ⌜ AllAllowed (size (as-form form)) (take left (fill-steps page order (copied (now addresses) (now values) held address value)))
+        (now image) ⌝ }
+    ensures { λ r. ⌜ Part (as-form form) left (fill-steps page order (copied (now (addresses .entry)) (now (values .entry)) held address value))
+        (now (image .entry)) (now (image .exit)) r ⌝ }
 {
     let opened = steps::program_word(image, form, page, 1, words::opening_word(2, order), left);
     let rest = steps::copy(
@@ -259,8 +261,12 @@ fn move_to<'a>(
 ) -> Stepped
     requires { ⌜ Lawful form × (page < n) × (n ≤ 32) × (length (now image) ≡ n * size (as-form form)) × (order < 4194304) × (held ≤ 192) × (address < 65535) ⌝ }
     requires { ⌜ Tabled (now addresses) (now values) held ⌝ }
-    requires { ⌜ AllAllowed (size (as-form form)) (take allowance (fill-steps page order (copied (now addresses) (now values) held address value))) (now image) ⌝ }
-    ensures { λ r. ⌜ Does (as-form form) allowance (move-steps (form .edition) page order (copied (now (addresses .entry)) (now (values .entry)) held address value) (pages-of (as-form form) n (now (image .entry)))) (now (image .entry)) r (now (image .exit)) ⌝ }
+    requires { ⌜ AllAllowed (size (as-form form)) (take allowance (fill-steps page order (copied (now addresses) (now values) held address value)))
+        (now image) ⌝ }
+    ensures { λ r. ⌜ Does (as-form form) allowance
+        (move-steps (form .edition) page order (copied (now (addresses .entry)) (now (values .entry)) held address value)
+        (pages-of (as-form form) n (now (image .entry))))
+        (now (image .entry)) r (now (image .exit)) ⌝ }
 {
     let copies = copy_count(addresses, values, held, address);
     let left = fill(

@@ -12,10 +12,11 @@ use Rattle.rules.specs.Call.{pages, store-number}
 use Rattle.pages.specs.Read.{as-form}
 use Rattle.survey.specs.declared.Look.{Look}
 use Rattle.survey.specs.Look.{Told}
+use Rattle.survey.proofs.Looking.{counted}
 use Rattle.settings.proofs.Tables.{holds-none}
 use Rattle.store.specs.Opened.{Opens}
 use Rattle.store.proofs.Values.{store-ok, look-told}
-use Rattle.writing.proofs.Recovering.{look-few, look-within, counted-all, recovered, not-recovered}
+use Rattle.writing.proofs.Recovering.{look-few, look-within, recovered, not-recovered}
 use Rattle.writing.proofs.recover.Statement.{statement}
 use Rattle.writing.proofs.recover.Tie as tie
 
@@ -60,10 +61,10 @@ returns c =
     (sym (not-recovered (form first) (image first) (entry first .args .allowance) (λ e. c .before .if1 .taken (o .number ∙ e))))
 
 sub-renewed : tie.Need-sub-renewed
-sub-renewed c = omega (arith, counted-all (told c) (ok c))
+sub-renewed c = omega (arith, counted (told c))
 
 sub-renewed-2 : tie.Need-sub-renewed-2
-sub-renewed-2 c = omega (arith, counted-all (told c) (ok c))
+sub-renewed-2 c = omega (arith, counted (told c))
 
 unclean-requires : tie.Need-unclean-requires
 unclean-requires c κs = let right = c .before .before .before in look-few (told right) (ok right)
@@ -95,7 +96,7 @@ returns-2 c =
     let i = image (right .before) in
     let l = look (right .before) in
     let all = states (pages (form (right .before)) i) in
-    let total : 3 * (l .count - l .used - l .cleared) ≡ 3 * count (unclean (base all)) all = omega (arith, counted-all (told right) (ok right)) in
+    let total : 3 * (l .count - l .used - l .cleared) ≡ 3 * count (unclean (base all)) all = omega (arith, counted (told right)) in
     let d = c .done .ensures in
     rw (d .0, d .1, d .2)
     (sym (recovered (told right) (ok right) (picks .unclean .result) (picks .unclean .ensures) _ _ _ total (renewed .renew-picked .ensures .1)))
