@@ -1,5 +1,7 @@
 // What a write does, chosen by what one look told: the way of a write, or the first test that refuses it.
 use pages::Form;
+use pages::ORDER_MAX;
+use pages::PAGES_MAX;
 use settings::HELD_MAX;
 use settings::Held;
 use settings::NO_ADDRESS;
@@ -8,8 +10,6 @@ use survey::ADDRESS;
 use survey::NO_ROOM;
 use survey::OK;
 use survey::ORDER_END;
-use survey::ORDER_MAX;
-use survey::PAGES_MAX;
 use survey::UNCLEAN;
 ghost use mathlib.Core.Path.{_≡_};
 ghost use mathlib.Core.List.{List};

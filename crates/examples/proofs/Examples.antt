@@ -14,10 +14,10 @@ use Rattle.rules.specs.Store.{states, order₂, base, used, is-cleared, is-open
 use Rattle.rules.specs.Store.{index-of, active-index, add-page, used-pages, insert, oldest-first, add-record, records, all-records, journal, or-else}
 use Rattle.rules.specs.Store.{last-of, value, put, put-all, settings, held, past, free-slot, slots-at, active-slots, count, better, offered, least-worn, index}
 use Rattle.rules.specs.Steps.{way, way-steps, new-page, next-order, fill-steps, other, renew, renew-all, format-steps, renewed-wear, add-steps}
-use Rattle.rules.specs.Steps.{renewals, unclean, recovery-steps, append-steps, taken, open-steps, but, copies, copy-steps, move-steps, has-free-slot}
+use Rattle.rules.specs.Steps.{renewals, unclean, recovery-steps, append-steps, taken, open-steps, but, copy-steps, move-steps, has-free-slot}
 use Rattle.rules.specs.Steps.{is-value, write-steps}
 use Rattle.rules.specs.Call.{this-form, first-of, store-rows, blank-read-rows, read-rows, write-rows, cut, page-count, pages, wrong-size, no-store}
-use Rattle.rules.specs.Call.{among, repeats, all-used, damaged, is-unclean, wrong-address, is-held, no-room, order-end, store-number, then}
+use Rattle.rules.specs.Call.{among, repeats, all-used, damaged, is-unclean, wrong-address, is-held, no-room, order-end, store-number}
 use Rattle.rules.specs.Call.{write-number, blank-read-number, read-number, accepted, format, stepped, recover, write, or-value, read, not-held-value}
 use Rattle.rules.specs.Call.{blank-value, blank-read, digits, lookup}
 use Rattle.rules.proofs.Laid.{laid, laid-all, within, run-laid}
@@ -38,9 +38,9 @@ unfolding same holds bytes told said yes-no did laid laid-all numbers rows offse
     wear-in is-opening order-in is-done all-blank state-after-wear state-by state page states order₂ base used is-cleared is-open order add-order
     used-orders greatest active-order is-active index-of active-index add-page used-pages insert oldest-first add-record records all-records journal
     or-else last-of value put put-all settings held past free-slot slots-at active-slots count better offered least-worn index renew renew-all
-    format-steps renewed-wear add-steps renewals unclean recovery-steps append-steps taken open-steps but copies copy-steps move-steps has-free-slot
+    format-steps renewed-wear add-steps renewals unclean recovery-steps append-steps taken open-steps but copy-steps move-steps has-free-slot
     is-value write-steps first-of store-rows blank-read-rows read-rows write-rows way way-steps new-page next-order fill-steps other cut page-count
-    pages wrong-size no-store among repeats all-used damaged is-unclean wrong-address is-held no-room order-end store-number then write-number
+    pages wrong-size no-store among repeats all-used damaged is-unclean wrong-address is-held no-room order-end store-number write-number
     blank-read-number read-number accepted format stepped recover write or-value read not-held-value blank-value blank-read digits lookup
 computed = tt
 

@@ -1,3 +1,2 @@
 -- Laws for the callers that lend a part of an image.
 pub mod Lent
-pub mod Runs

@@ -164,7 +164,7 @@ follows-the-rules i =
           (λ t. (h .1 ∙ ap (λ (f : Formatted). f .image) (format-done this-form i t), format-long (this-form .edition) (page-count this-form i)));
       recovers = λ n r j h. its-steps (store-number this-form i) n (recovery-of this-form i) i r j h;
       writes = λ a v n r j h. its-steps (write-number this-form a v i) n (write-of this-form a v i) i r j h;
-      longest = not-longer i;
+      longest = not-longer this-form i;
       finds = λ a v n r j h ok fin q g.
           let e = keeps-its-word .finds-what-is-written i a v n (as-stepped r j) (r, h, refl) ok fin .there (as-reading q) (q, g, refl) in
           (ap (λ (x : Reading). x .number) e, ap (λ (x : Reading). x .value) e);

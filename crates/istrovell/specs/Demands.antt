@@ -1,5 +1,5 @@
 -- The customer's three demands, of the exported calls: what their contracts allow, whatever the image.
-use Prim.Native.Nat.{ℕ, _+_, _-_, _*_, _≤_}
+use Prim.Native.Nat.{ℕ, _+_, _*_, _≤_}
 use mathlib.Core.Path.{_≡_}
 use mathlib.Core.Bool.{true, false, cond}
 use mathlib.Core.List.{List, [], _∷_}
@@ -13,6 +13,7 @@ use Rattle.rules.specs.Call.{format, recover, write, read, blank-read, lookup}
 use Rattle.promise.specs.Calls.{Question, value-at, blank-value-at, pairing-code, Answer, Calls}
 use Rattle.promise.specs.History.{recovery-of, write-of}
 use Rattle.promise.specs.Promise.{KeepsItsWord}
+use Rattle.promise.specs.Corollaries.{longest as longest-write}
 use Rattle.reading.specs.declared.Reading.{Reading}
 use Rattle.reading.specs.declared.Pairing.{Pairing}
 use Rattle.reading.specs.Answers.{as-reading, as-pairing}
@@ -73,8 +74,8 @@ abbrev pub Gives : Reading → ℕ → Type 0
 Gives r v = (r .number ≡ OK) × (r .value ≡ v)
 
 -- Demand 2. The image after each flash step is the one that the rules give; a format has 3 x pages + 2 steps, and no write is
--- longer than the rules say (that one is so long: `a-longest-write` of promise). What a finished write puts at an address, a
--- read finds: of every image.
+-- longer than 388 + 3 x (pages - 1) (that one is so long: `a-longest-write` of promise). What a finished write puts at an
+-- address, a read finds: of every image.
 pub record FollowsTheRules (i : List ℕ) : Type 0 where
   pub formats : (r : ℕ) (j : List ℕ) → Formats i r j → r ≡ OK
       → let ss = format-steps (this-form .edition) (page-count this-form i) in (j ≡ run (size this-form) ss i) × (length ss ≡ 3 * page-count this-form i + 2)
@@ -84,7 +85,7 @@ pub record FollowsTheRules (i : List ℕ) : Type 0 where
   pub writes : (a v n : ℕ) (r : Stepped) (j : List ℕ) → Writes a v n i r j → r .number ≡ OK
       → let ss = take n (write-of this-form a v i) in (j ≡ run (size this-form) ss i) × (r .steps ≡ length ss)
       × (r .finished ≡ leb (length (write-of this-form a v i)) n)
-  pub longest : (a v : ℕ) → write-number this-form a v i ≡ OK → length (write-of this-form a v i) ≤ 388 + 3 * (page-count this-form i - 1)
+  pub longest : (a v : ℕ) → write-number this-form a v i ≡ OK → length (write-of this-form a v i) ≤ longest-write (page-count this-form i)
   pub finds : (a v n : ℕ) (r : Stepped) (j : List ℕ) → Writes a v n i r j → r .number ≡ OK → r .finished ≡ true
       → (q : Reading) → Reads a j q → Gives q v
 

@@ -1,13 +1,21 @@
 -- An append after another appends the joined text. Assumes nothing.
-use Prim.Native.Nat.{ℕ, _+_, _≤_, _<_}
+use Prim.Native.Nat.{ℕ, suc, _+_, _≤_, _<_}
 use mathlib.Core.Path.{_≡_, refl, sym, ap, _∙_}
 use mathlib.Core.List.{List, [], _∷_, _++_, append-assoc}
+use native.Mathlib.Nat.{add-zero}
 use native.Mathlib.Numerals.{add-one}
 use native.Mathlib.Omega.{arith}
 use lib.ListN.{length, getD, take, drop, set, length-append}
-use lib.Seq.{sets-eq, length-sets, take-suc, take-at}
-use Rattle.flash.proofs.Runs.{sets-sets, drop-sets}
+use lib.Seq.{sets, sets-eq, length-sets, take-suc, take-at}
+use Rattle.rules.proofs.Cut.{drop-sets-below}
 use Rattle.lines.specs.Appended.{Appends, Written}
+
+-- bytes stored behind others
+sets-sets : (o : ℕ) (xs us vs : List ℕ) → sets (sets xs o us) (o + length us) vs ≡ sets xs o (us ++ vs)
+sets-sets o xs [] vs = ap (λ (n : ℕ). sets xs n vs) (add-zero o)
+sets-sets o xs (u ∷ us) vs =
+    let e : o + suc (length us) ≡ suc o + length us = omega arith in
+    ap (λ (n : ℕ). sets (sets xs o (u ∷ us)) n vs) e ∙ sets-sets (suc o) (set xs o u) us vs
 
 pub appends-none : (xs : List ℕ) (at : ℕ) → Appends xs at [] xs at
 appends-none xs at = record { end = omega arith; bytes = refl }
@@ -45,5 +53,5 @@ appends-written {xs} {s} {ys} {r} l p =
       size = size;
       within = omega (arith, appends-length p);
       begins = rw form (take-at s (drop (0 + length s) xs) r (sym size));
-      behind = rw (p .bytes) (drop-sets r 0 xs s (omega arith));
+      behind = rw (p .bytes) (drop-sets-below r xs 0 s (omega arith));
     }

@@ -10,6 +10,16 @@ ghost use Rattle.rules.specs.Steps.{renewed-wear};
 ghost use Rattle.words.specs.Read.{as-word};
 ghost use Rattle.pages.specs.Read.{as-state, as-form, Lawful};
 
+// Pages are 2 to 32, orders 0 to 4,194,303.
+pub const PAGES_MIN: usize = 2;
+
+pub const PAGES_MAX: usize = 32;
+
+pub const ORDER_MAX: u32 = 4194303;
+
+// The header of a page: three words.
+pub const HEADER_SIZE: usize = 12;
+
 // The form of a store's pages: how many slots a page has behind its three header words, and the third byte of its wear word.
 pub struct Form {
     pub slots: usize,
@@ -28,7 +38,7 @@ impl Form {
         requires { ⌜ Lawful self ⌝ }
         ensures { λ r. ⌜ r ≡ size (as-form self) ⌝ }
     {
-        12 + 4 * self.slots
+        HEADER_SIZE + 4 * self.slots
     }
 
     // The offset at which a page begins.
@@ -37,7 +47,7 @@ impl Form {
         ensures { λ r. ⌜ r ≡ page * size (as-form self) ⌝ }
         ensures { λ r. ⌜ r ≤ 65536 ⌝ }
     {
-        page * (12 + 4 * self.slots)
+        page * self.size()
     }
 }
 

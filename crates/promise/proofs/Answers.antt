@@ -10,11 +10,11 @@ use borrow.Author.Tests.{ne-eqb, eqb-true}
 use Rattle.rules.specs.Page.{Form}
 use Rattle.rules.specs.Store.{states, value}
 use Rattle.rules.specs.Steps.{is-value}
-use Rattle.rules.specs.Call.{pages, is-unclean, wrong-address, is-held, no-room, order-end, first-of, then, store-number, write-number, accepted}
+use Rattle.rules.specs.Call.{pages, is-unclean, wrong-address, is-held, no-room, order-end, first-of, store-number, write-number, accepted}
 use Rattle.rules.specs.Call.{or-value, blank-value, not-held-value, digits, read, blank-read, lookup, OK, NO-STORE, DAMAGED, UNCLEAN, ADDRESS}
 use Rattle.rules.specs.Call.{NO-ROOM, ORDER-END, NOT-HELD}
 use Rattle.rules.proofs.Truth.{by-cases}
-use Rattle.rules.proofs.Rows.{blank-read-goes-on, read-goes-on, write-goes-on}
+use Rattle.rules.proofs.Rows.{then, blank-read-goes-on, read-goes-on, write-goes-on}
 use Rattle.rules.proofs.Good.{changed}
 use Rattle.rules.proofs.Healthy.{Healthy, value-here, store-ok}
 use Rattle.promise.specs.Calls.{Image, Question, value-at, blank-value-at, pairing-code, Answer, Asks, shows, put-digit, with-value, answer}

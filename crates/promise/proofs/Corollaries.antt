@@ -10,16 +10,16 @@ use lib.Seq.{sets}
 use Rattle.rules.specs.Flash.{Step, program, first, second, offset, aim, after, run, bytes-at, Rises, none as no-bytes, more as byte, least, failing}
 use Rattle.rules.specs.Word.{zeros, check, sound, blank, condition, low16, low24, third, checked, wear-word, number-word, opening-word, record-word}
 use Rattle.rules.specs.Word.{slot-condition, word-steps, words}
-use Rattle.rules.specs.Page.{size, wear-part, opening-part, done-part, slots, is-wear, wear-in, is-opening, order-in, is-done, all-blank, state-after-wear}
-use Rattle.rules.specs.Page.{state-by, state, page}
+use Rattle.rules.specs.Page.{Form, size, wear-part, opening-part, done-part, slots, is-wear, wear-in, is-opening, order-in, is-done, all-blank}
+use Rattle.rules.specs.Page.{state-after-wear, state-by, state, page}
 use Rattle.rules.specs.Store.{states, order₂, base, used, is-cleared, is-open, order, add-order, used-orders, greatest, active-order, is-active}
 use Rattle.rules.specs.Store.{index-of, active-index, add-page, used-pages, insert, oldest-first, add-record, records, all-records, journal, or-else}
 use Rattle.rules.specs.Store.{last-of, value, put, put-all, settings, held, past, free-slot, slots-at, active-slots, count}
 use Rattle.rules.specs.Steps.{way, way-steps, new-page, next-order, fill-steps, other, renew, renew-all, format-steps, unclean, append-steps}
 use Rattle.rules.specs.Steps.{has-free-slot, is-value, write-steps}
-use Rattle.rules.specs.Call.{Formatted, Stepped, stepped, write, first-of, store-rows, blank-read-rows, read-rows, write-rows, this-form}
+use Rattle.rules.specs.Call.{Formatted, Stepped, stepped, write, first-of, store-rows, blank-read-rows, read-rows, write-rows, this-form, Roomy}
 use Rattle.rules.specs.Call.{OK, cut, page-count, pages, wrong-size, no-store, among, repeats, all-used, damaged, is-unclean}
-use Rattle.rules.specs.Call.{wrong-address, is-held, no-room, order-end, store-number, then, write-number, blank-read-number, read-number, accepted}
+use Rattle.rules.specs.Call.{wrong-address, is-held, no-room, order-end, store-number, write-number, blank-read-number, read-number, accepted}
 use Rattle.rules.specs.Call.{format, or-value, read}
 use Rattle.rules.proofs.Bits.{rises-refl}
 use Rattle.rules.proofs.Laid.{laid, laid-all, within, run-laid}
@@ -34,32 +34,32 @@ use Rattle.promise.specs.Corollaries.{new-flash, fresh-store, finds-noth
 use Rattle.rules.proofs.Healthy.{Healthy, few-here, apart-here, spare-here, accepted-healthy, recovery-allowed, write-allowed}
 use Rattle.promise.proofs.Kept.{in-use-healthy, kept}
 
-obeyed : Obeys this-form (by-the-rules this-form)
-obeyed = record { formats = λ i f e. e; recovers = λ n i s e. e; writes = λ a v n i s e. e; answers = λ q i r e. e }
+obeyed : (fm : Form) → Obeys fm (by-the-rules fm)
+obeyed fm = record { formats = λ i f e. e; recovers = λ n i s e. e; writes = λ a v n i s e. e; answers = λ q i r e. e }
 
 pub code-survives : the-code-survives
-code-survives i u a v n k x = kept this-form (omega arith) (by-the-rules this-form) obeyed .loses-nothing i u a v .old-or-new x pairing-code
+code-survives fm roomy i u a v n k x = kept fm roomy (by-the-rules fm) (obeyed fm) .loses-nothing i u a v .old-or-new x pairing-code
 
 -- ---- pages
 
-holds : {i : Image} → Used i → (t : ℕ → Option ℕ) × Healthy this-form (Unit {0}) t i
-holds u = in-use-healthy this-form (omega arith) (by-the-rules this-form) obeyed u
+holds : (fm : Form) → Roomy fm → {i : Image} → Used fm i → (t : ℕ → Option ℕ) × Healthy fm (Unit {0}) t i
+holds fm roomy u = in-use-healthy fm roomy (by-the-rules fm) (obeyed fm) u
 
 pub differing : orders-differ
-differing i u = apart-here (holds u .1)
+differing fm roomy i u = apart-here (holds fm roomy u .1)
 
 pub spared : a-page-is-spare
-spared i u = spare-here (holds u .1)
+spared fm roomy i u = spare-here (holds fm roomy u .1)
 
 pub not-over-full : never-over-full
-not-over-full i u = few-here (holds u .1)
+not-over-full fm roomy i u = few-here (holds fm roomy u .1)
 
 pub may-be-done : every-step-may-be-done
-may-be-done i =
+may-be-done fm roomy i =
     record {
-      format-steps-may = format-allowed this-form i;
-      recovery-steps-may = λ ok. recovery-allowed (accepted-healthy this-form (omega arith) i ok);
-      write-steps-may = λ a v ok. write-allowed (accepted-healthy this-form (omega arith) i (write-fails this-form i a v ok .stored)) a v ok;
+      format-steps-may = format-allowed fm i;
+      recovery-steps-may = λ ok. recovery-allowed (accepted-healthy fm roomy i ok);
+      write-steps-may = λ a v ok. write-allowed (accepted-healthy fm roomy i (write-fails fm i a v ok .stored)) a v ok;
     }
 
 -- ---- a store, and a write whose power fails
@@ -97,7 +97,7 @@ unfolding with-second laid-out laid laid-all offset aim after run zeros check so
     is-active index-of active-index add-page used-pages insert oldest-first add-record records all-records journal or-else last-of value put put-all
     settings held past free-slot slots-at active-slots count renew renew-all format-steps unclean append-steps has-free-slot is-value write-steps
     first-of store-rows blank-read-rows read-rows write-rows way way-steps new-page next-order fill-steps other cut page-count pages wrong-size
-    no-store among repeats all-used damaged is-unclean wrong-address is-held no-room order-end store-number then write-number blank-read-number
+    no-store among repeats all-used damaged is-unclean wrong-address is-held no-room order-end store-number write-number blank-read-number
     read-number accepted format or-value read bytes-at
 computed = record { lawful = refl; accepted = refl; steps = refl; torn = refl; torn-reads = refl; whole = refl; whole-reads = refl }
 

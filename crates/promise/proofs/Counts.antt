@@ -9,16 +9,16 @@ use lib.Dec.{eqb, leb}
 use borrow.Author.Tests.{eqb-true, eqb-false, ne-eqb, leb-false}
 use Rattle.rules.specs.Flash.{Step, program, erase}
 use Rattle.rules.specs.Word.{Word, word, wear-word, opening-word, done-word, record-word, word-steps}
-use Rattle.rules.specs.Page.{Page, wear-place, opening-place, done-place, slot-place}
+use Rattle.rules.specs.Page.{Form, Page, wear-place, opening-place, done-place, slot-place}
 use Rattle.rules.specs.Store.{Setting, setting, states, is-cleared, active-index, active-slots, free-slot, count, journal, put-all, settings, held, value}
 use Rattle.rules.specs.Steps.{Way, stay, append-to, open-at, move-to, renew, renewed-wear, add-steps, renewals, other}
-use Rattle.rules.specs.Steps.{copies, copy-steps, append-steps, open-steps, fill-steps, move-steps, taken, next-order, has-free-slot, is-value}
+use Rattle.rules.specs.Steps.{move-records, copy-steps, append-steps, open-steps, fill-steps, move-steps, taken, next-order, has-free-slot, is-value}
 use Rattle.rules.specs.Steps.{new-page, way, way-steps, write-steps}
-use Rattle.rules.specs.Call.{this-form, pages, is-held, no-room, write-number, OK}
+use Rattle.rules.specs.Call.{pages, is-held, no-room, write-number, OK}
 use Rattle.rules.proofs.Truth.{by-cases, not-both}
 use Rattle.rules.proofs.Lengths.{word-length, open-long, move-long}
 use Rattle.rules.proofs.Cut.{pages-long}
-use Rattle.rules.proofs.Settings.{copies-length}
+use Rattle.rules.proofs.Settings.{moved-length}
 use Rattle.rules.proofs.Rows.{write-fails}
 use Rattle.rules.proofs.Ready.{taken-within}
 use Rattle.rules.proofs.Held.{held-few}
@@ -55,13 +55,13 @@ erases-renew : (edition k n : ℕ) (ss : List Step) → erases (renew edition k 
 unfolding erases renew
 erases-renew edition k n ss = ap suc (erases-after (word-steps k wear-place (wear-word edition n)) ss (erases-word k wear-place (wear-word edition n)))
 
-erases-past : (edition t k : ℕ) (ps : List Page) → t < k → erases (renewals edition (other t) k ps) ≡ length ps
+erases-past : (edition t k : ℕ) (ps : List Page) → t < k → erases (renewals edition (λ j s. other t j) k ps) ≡ length ps
 unfolding erases renewals add-steps other
 erases-past edition t k [] l = refl
 erases-past edition t k (p ∷ ps) l =
     rw (ne-eqb k t (λ e. omega arith)) (erases-renew edition k (renewed-wear (p .wear)) _ ∙ ap suc (erases-past edition t (suc k) ps (omega arith)))
 
-erases-others : (edition t k : ℕ) (ps : List Page) → k ≤ t → t < k + length ps → erases (renewals edition (other t) k ps) + 1 ≡ length ps
+erases-others : (edition t k : ℕ) (ps : List Page) → k ≤ t → t < k + length ps → erases (renewals edition (λ j s. other t j) k ps) + 1 ≡ length ps
 unfolding erases renewals add-steps other
 erases-others edition t k [] l h = absurd (omega arith)
 erases-others edition t k (p ∷ ps) l h =
@@ -72,14 +72,14 @@ erases-others edition t k (p ∷ ps) l h =
     let ne : k ≡ t → ⊥ = z in
     let lt : suc k ≤ t = omega arith in
     let r = erases-others edition t (suc k) ps lt (omega arith) in
-    let n = erases-renew edition k (renewed-wear (p .wear)) (renewals edition (other t) (suc k) ps) in
+    let n = erases-renew edition k (renewed-wear (p .wear)) (renewals edition (λ j s. other t j) (suc k) ps) in
     rw e (omega arith))
 
 -- a move to one of the pages
 move-erases : (edition p o : ℕ) (rs : List Setting) (ps : List Page) → p < length ps → erases (move-steps edition p o rs ps) + 1 ≡ length ps
 unfolding move-steps fill-steps
 move-erases edition p o rs ps l =
-    let rest = renewals edition (other p) 0 ps in
+    let rest = renewals edition (λ j s. other p j) 0 ps in
     let done = word-steps p done-place (done-word o) in
     let copied = copy-steps p 0 rs in
     let opened = word-steps p opening-place (opening-word 2 o) in
@@ -98,12 +98,12 @@ move-is a v ps m =
 
 pub move-wears : a-move-wears-all-but-one
 unfolding write-steps way-steps
-move-wears i a v ok m =
-    let fails = write-fails this-form i a v ok in
-    let l = taken-within this-form i (fails .stored) (fails .clean) in
-    let ps = pages this-form i in
-    rw (move-is a v ps m) (move-erases (this-form .edition) (taken ps) (next-order ps) (copies a v ps) ps (rw (pages-long this-form i) l)
-    ∙ pages-long this-form i)
+move-wears fm i a v ok m =
+    let fails = write-fails fm i a v ok in
+    let l = taken-within fm i (fails .stored) (fails .clean) in
+    let ps = pages fm i in
+    rw (move-is a v ps m) (move-erases (fm .edition) (taken ps) (next-order ps) (move-records a v (settings ps)) ps (rw (pages-long fm i) l)
+    ∙ pages-long fm i)
 
 -- the other ways
 way-erases : (edition a v : ℕ) (ps : List Page) (w : Way) → moves w ≡ false → erases (way-steps edition a v ps w) ≡ 0
@@ -117,26 +117,26 @@ way-erases edition a v ps (move-to p o) m = not-both refl m
 
 pub others-wear-none : another-write-wears-none
 unfolding write-steps
-others-wear-none i a v m = way-erases (this-form .edition) a v (pages this-form i) (way a v (pages this-form i)) m
+others-wear-none fm i a v m = way-erases (fm .edition) a v (pages fm i) (way a v (pages fm i)) m
 
 -- ---- lengths
 
 -- no more is copied than may be held
-copies-few : (a v : ℕ) (i : Image) → write-number this-form a v i ≡ OK → is-value (value a (pages this-form i)) v ≡ false
-    → length (copies a v (pages this-form i)) ≤ 192
-unfolding copies settings value no-room is-held held
-copies-few a v i ok s =
-    let fails = write-fails this-form i a v ok in
-    let J = journal (pages this-form i) in
-    copies-length a v J 192 (held-few this-form i (fails .stored))
+moved-few : (fm : Form) (a v : ℕ) (i : Image) → write-number fm a v i ≡ OK → is-value (value a (pages fm i)) v ≡ false
+    → length (move-records a v (settings (pages fm i))) ≤ 192
+unfolding settings value no-room is-held held
+moved-few fm a v i ok s =
+    let fails = write-fails fm i a v ok in
+    let J = journal (pages fm i) in
+    moved-length a v J 192 (held-few fm i (fails .stored))
     (λ e.
     let r : leb 192 (length (put-all [] J)) ≡ false = rw e at (fails .room s) in
     leb-false 192 (length (put-all [] J)) r)
 
 pub not-longer : no-write-is-longer
 unfolding write-steps way way-steps new-page append-steps
-not-longer i a v ok =
-    let ps = pages this-form i in
+not-longer fm i a v ok =
+    let ps = pages fm i in
     by-cases (is-value (value a ps) v) (λ s. rw s (omega arith))
     (λ s.
     by-cases (has-free-slot ps)
@@ -146,7 +146,8 @@ not-longer i a v ok =
     (λ c.
     rw (s, f, c) (omega (arith, open-long (taken ps) (next-order ps) a v)))
     (λ c.
-    let fails = write-fails this-form i a v ok in
-    let many = pages-long this-form i in
-    let inside = taken-within this-form i (fails .stored) (fails .clean) in
-    rw (s, f, c) (omega (arith, move-long (this-form .edition) (taken ps) (next-order ps) (copies a v ps) ps (omega arith), copies-few a v i ok s)))))
+    let fails = write-fails fm i a v ok in
+    let many = pages-long fm i in
+    let inside = taken-within fm i (fails .stored) (fails .clean) in
+    let long = move-long (fm .edition) (taken ps) (next-order ps) (move-records a v (settings ps)) ps (omega arith) in
+    rw (s, f, c) (omega (arith, long, moved-few fm a v i ok s)))))

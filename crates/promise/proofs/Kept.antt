@@ -48,17 +48,17 @@ module _ (fm : Form) (number n : ℕ) (ss : List Step) (i : Image) (s : Stepped)
 -- ---- calls that obey the rules
 
 module _ (fm : Form) (roomy : Roomy fm) (C : Calls) (obeys : Obeys fm C) where
-  abbrev Used : (ℕ → Option ℕ) → Image → Type 0
-  Used = Healthy fm (Unit {0})
+  abbrev Well : (ℕ → Option ℕ) → Image → Type 0
+  Well = Healthy fm (Unit {0})
 
-  recovery-keeps : {t : ℕ → Option ℕ} {i j : Image} → Used t i → RecoveryLeaves fm C i j → Used t j
+  recovery-keeps : {t : ℕ → Option ℕ} {i j : Image} → Well t i → RecoveryLeaves fm C i j → Well t j
   unfolding recover
   recovery-keeps {i = i} {j = j} h r =
       recovery-left h tt
       (called-left fm (store-number fm i) (r .allowance) (recovery-of fm i) i (r .done)
       (obeys .recovers (r .allowance) i (r .done) (r .called)) (store-ok h) j (r .fails))
 
-  recoveries-keep : {t : ℕ → Option ℕ} {i k : Image} → Used t i → Recoveries fm C i k → Used t k
+  recoveries-keep : {t : ℕ → Option ℕ} {i k : Image} → Well t i → Recoveries fm C i k → Well t k
   recoveries-keep h no-more = h
   recoveries-keep h (more r rest) = recoveries-keep (recovery-keeps h r) rest
 
@@ -76,12 +76,12 @@ module _ (fm : Form) (roomy : Roomy fm) (C : Calls) (obeys : Obeys fm C) where
         subst (λ (m : ℕ). BytesLeft (size fm) m (write-of fm a v i) i j) (w .counted)
         (called-left fm (write-number fm a v i) (w .allowance) (write-of fm a v i) i (w .done) as-written write-ok j (w .fails))
 
-  pub in-use-healthy : {i : Image} → InUse fm C i → (t : ℕ → Option ℕ) × Used t i
+  pub in-use-healthy : {i : Image} → InUse fm C i → (t : ℕ → Option ℕ) × Well t i
   in-use-healthy (formatted i f x ok) =
       let e = obeys .formats i f x in
       by-cases (wrong-size fm i)
       (λ w. absurd (one-not-zero (sym (ap (λ (g : Formatted). g .number) (e ∙ format-refused fm i w)) ∙ ok)))
-      (λ w. ((λ x. none), subst (Used (λ x. none)) (sym (ap (λ (g : Formatted). g .image) (e ∙ format-done fm i w))) (format-healthy fm roomy i w)))
+      (λ w. ((λ x. none), subst (Well (λ x. none)) (sym (ap (λ (g : Formatted). g .image) (e ∙ format-done fm i w))) (format-healthy fm roomy i w)))
     where
       one-not-zero : _≡_ {A = ℕ} 1 0 → ⊥
       one-not-zero e = omega arith
@@ -134,14 +134,14 @@ module _ (fm : Form) (roomy : Roomy fm) (C : Calls) (obeys : Obeys fm C) where
     abbrev t : ℕ → Option ℕ
     t = in-use-healthy u .0
 
-    abbrev h : Used t i
+    abbrev h : Well t i
     h = in-use-healthy u .1
 
     module _ {n : ℕ} {k : Image} (x : Interrupted fm C a v i n k) where
       address-ok : wrong-address a ≡ false
       address-ok = write-fails fm i a v (write-ok (x .write)) .address
 
-      either : Used t k ⊎ Used (changed a v t) k
+      either : Well t k ⊎ Well (changed a v t) k
       either =
           ⊎-elim (λ g. inl (recoveries-keep g (x .then))) (λ g. inr (recoveries-keep g (x .then)))
           (write-left h a v (write-ok (x .write)) tt (write-bytes (x .write)))

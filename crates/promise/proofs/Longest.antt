@@ -16,7 +16,7 @@ use Rattle.rules.specs.Page.{size, blank-word, open₁, Page, page, state, slot
 use Rattle.rules.specs.Store.{states, order₂, base, used, is-cleared, order, greatest, used-pages, add-page, active-order, active-index, index-of}
 use Rattle.rules.specs.Store.{is-active, slots-at, active-slots, past, free-slot, count, oldest-first, Setting, setting, add-record, records}
 use Rattle.rules.specs.Store.{all-records, journal, or-else, last-of, put, put-all, settings, value}
-use Rattle.rules.specs.Steps.{unclean, but, copies, has-free-slot, is-value, taken, next-order, new-page, way, way-steps, write-steps}
+use Rattle.rules.specs.Steps.{unclean, but, move-records, has-free-slot, is-value, taken, next-order, new-page, way, way-steps, write-steps}
 use Rattle.rules.specs.Call.{this-form, page-count, pages, cut, repeats, is-unclean, is-held, no-room, order-end, write-number, OK}
 use Rattle.rules.proofs.Pages.{replicate-all-blank, wear-is-wear, opened-plain, fresh-cleared}
 use Rattle.rules.proofs.Slots.{blank-records, written}
@@ -95,7 +95,7 @@ record Computed : Type 0 where
   many : length (written all) ≡ 253
   read-back : records (written all) ≡ all
   held-many : length (put-all [] all) ≡ 192
-  copied-many : length (but 0 (put-all [] all) ++ setting 0 1 ∷ []) ≡ 192
+  copied-many : length (move-records 0 1 (put-all [] all)) ≡ 192
   first-value : last-of 0 all ≡ some 0
   none-free : free-slot (written all) ≡ 253
 
@@ -267,14 +267,14 @@ module _ (m : ℕ) (few : m ≤ 30) where
       (rw (pages-are, none-free, newest) (ne-eqb m 4194303 (λ e. omega arith)))
 
   long : length (write-of this-form 0 1 image) ≡ 388 + 3 * (suc (suc m) - 1)
-  unfolding write-steps way way-steps new-page is-value copies settings
+  unfolding write-steps way way-steps new-page is-value settings
   long =
       let many : length ps ≡ suc (suc m) = length-map store (page 1) ∙ stack .many in
       let inside : taken ps < length ps = rw (many, ← counted, ← pages-are) (taken-within this-form image (store-ok healthy) clean) in
-      let copied : length (but 0 (put-all [] (journal ps)) ++ setting 0 1 ∷ []) ≡ 192 =
+      let copied : length (move-records 0 1 (put-all [] (journal ps))) ≡ 192 =
       rw (journal-is c all store good) (computed .copied-many) in
       rw (first-value, pages-are, none-free, stack .one-cleared)
-      (omega (arith, move-long (this-form .edition) (taken ps) (next-order ps) (copies 0 1 ps) ps inside))
+      (omega (arith, move-long (this-form .edition) (taken ps) (next-order ps) (move-records 0 1 (settings ps)) ps inside))
 
 pub longest-there : a-longest-write
 longest-there n l h =

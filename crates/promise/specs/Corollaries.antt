@@ -8,44 +8,46 @@ use lib.ListN.{length, replicate}
 use Rattle.rules.specs.Flash.{Step, program, erase, AllAllowed, bytes-at}
 use Rattle.rules.specs.Store.{states, base, used-orders, held}
 use Rattle.rules.specs.Steps.{format-steps, Way, stay, append-to, open-at, move-to, way}
-use Rattle.rules.specs.Page.{size}
-use Rattle.rules.specs.Call.{this-form, held-limit, page-count, pages, wrong-size, store-number, repeats, all-used, write-number, OK}
+use Rattle.rules.specs.Page.{Form, size}
+use Rattle.rules.specs.Call.{this-form, Roomy, held-limit, page-count, pages, wrong-size, store-number, repeats, all-used, write-number, OK}
 use Rattle.rules.specs.Call.{NOT-HELD, Reading, read, format}
 use Rattle.promise.specs.Calls.{Image, pairing-code, finds, by-the-rules}
 use Rattle.promise.specs.History.{recovery-of, write-of, InUse, Interrupted}
 use Rattle.promise.specs.Promise.{Same, Changed}
 
+-- Each is of any form of pages, if a page has more slots than addresses may be held.
+
 -- a store in use, by the rules
-abbrev pub Used : Image → Type 0
-Used = InUse this-form (by-the-rules this-form)
+abbrev pub Used : Form → Image → Type 0
+Used fm = InUse fm (by-the-rules fm)
 
 -- "Does a handset forget its pairing code if the battery contact opens while a digit of it is being set?" No: the whole answer of
 -- the lookup is as before, or it is as before with the one new digit. The address a may be any: a write elsewhere leaves the code.
 abbrev pub the-code-survives : Type 0
-the-code-survives = (i : Image) → Used i → (a v n : ℕ) (k : Image) → Interrupted this-form (by-the-rules this-form) a v i n k
-    → Same this-form (by-the-rules this-form) pairing-code i k ⊎ Changed this-form (by-the-rules this-form) a v pairing-code i k
+the-code-survives = (fm : Form) → Roomy fm → (i : Image) → Used fm i → (a v n : ℕ) (k : Image) → Interrupted fm (by-the-rules fm) a v i n k
+    → Same fm (by-the-rules fm) pairing-code i k ⊎ Changed fm (by-the-rules fm) a v pairing-code i k
 
 -- "Can there be two pages that both claim to be current?" No two used pages have one order.
 abbrev pub orders-differ : Type 0
-orders-differ = (i : Image) → Used i → repeats (used-orders (base (states (pages this-form i))) (states (pages this-form i))) ≡ false
+orders-differ = (fm : Form) → Roomy fm → (i : Image) → Used fm i → repeats (used-orders (base (states (pages fm i))) (states (pages fm i))) ≡ false
 
 -- "Can it run out of pages to move to?" There is always one that is not used.
 abbrev pub a-page-is-spare : Type 0
-a-page-is-spare = (i : Image) → Used i → all-used (states (pages this-form i)) ≡ false
+a-page-is-spare = (fm : Form) → Roomy fm → (i : Image) → Used fm i → all-used (states (pages fm i)) ≡ false
 
 -- "Can it hold more than a page takes?" At most 192 addresses are held.
 abbrev pub never-over-full : Type 0
-never-over-full = (i : Image) → Used i → held (pages this-form i) ≤ held-limit
+never-over-full = (fm : Form) → Roomy fm → (i : Image) → Used fm i → held (pages fm i) ≤ held-limit
 
 -- "Is a half-word ever programmed that is not blank?" Never, whatever the image: each step of a format, of a recovery and of an
 -- accepted write may be done when its turn comes.
-pub record MayBeDone (i : Image) : Type 0 where
-  pub format-steps-may : wrong-size this-form i ≡ false → AllAllowed (size this-form) (format-steps (this-form .edition) (page-count this-form i)) i
-  pub recovery-steps-may : store-number this-form i ≡ OK → AllAllowed (size this-form) (recovery-of this-form i) i
-  pub write-steps-may : (a v : ℕ) → write-number this-form a v i ≡ OK → AllAllowed (size this-form) (write-of this-form a v i) i
+pub record MayBeDone (fm : Form) (i : Image) : Type 0 where
+  pub format-steps-may : wrong-size fm i ≡ false → AllAllowed (size fm) (format-steps (fm .edition) (page-count fm i)) i
+  pub recovery-steps-may : store-number fm i ≡ OK → AllAllowed (size fm) (recovery-of fm i) i
+  pub write-steps-may : (a v : ℕ) → write-number fm a v i ≡ OK → AllAllowed (size fm) (write-of fm a v i) i
 
 abbrev pub every-step-may-be-done : Type 0
-every-step-may-be-done = (i : Image) → MayBeDone i
+every-step-may-be-done = (fm : Form) → Roomy fm → (i : Image) → MayBeDone fm i
 
 -- "How much does a write wear the flash?" A move erases every page but the one that it moves to; any other write erases none.
 unfoldable pub erases : List Step → ℕ
@@ -60,20 +62,19 @@ moves (open-at p o) = false
 moves (move-to p o) = true
 
 abbrev pub a-move-wears-all-but-one : Type 0
-a-move-wears-all-but-one =
-    (i : Image) (a v : ℕ) → write-number this-form a v i ≡ OK → moves (way a v (pages this-form i)) ≡ true
-    → erases (write-of this-form a v i) + 1 ≡ page-count this-form i
+a-move-wears-all-but-one = (fm : Form) (i : Image) (a v : ℕ) → write-number fm a v i ≡ OK → moves (way a v (pages fm i)) ≡ true
+    → erases (write-of fm a v i) + 1 ≡ page-count fm i
 
 abbrev pub another-write-wears-none : Type 0
-another-write-wears-none = (i : Image) (a v : ℕ) → moves (way a v (pages this-form i)) ≡ false → erases (write-of this-form a v i) ≡ 0
+another-write-wears-none = (fm : Form) (i : Image) (a v : ℕ) → moves (way a v (pages fm i)) ≡ false → erases (write-of fm a v i) ≡ 0
 
--- "How long can a write take?" It has at most 388 steps, and 3 for each page but one; and in a store of any number of pages there
--- is a write with so many.
+-- "How long can a write take?" It has at most 388 steps, and 3 for each page but one; and in a store of any number of pages, of the
+-- form that there is, there is a write with so many.
 abbrev pub longest : (pages : ℕ) → ℕ
 longest n = 388 + 3 * (n - 1)
 
 abbrev pub no-write-is-longer : Type 0
-no-write-is-longer = (i : Image) (a v : ℕ) → write-number this-form a v i ≡ OK → length (write-of this-form a v i) ≤ longest (page-count this-form i)
+no-write-is-longer = (fm : Form) (i : Image) (a v : ℕ) → write-number fm a v i ≡ OK → length (write-of fm a v i) ≤ longest (page-count fm i)
 
 pub record Longest (n : ℕ) : Type 0 where
   pub image : Image
@@ -105,7 +106,7 @@ pub record CutLeaving (record-bytes : List ℕ) (answer : Reading) : Type 0 wher
   pub reads : read this-form 5 left ≡ answer
 
 pub record SuchAStore : Type 0 where
-  pub in-use : Used fresh-store
+  pub in-use : Used this-form fresh-store
   pub accepted : write-number this-form 5 65 fresh-store ≡ OK
   pub torn : CutLeaving (0x05 ∷ 0x00 ∷ 0x43 ∷ 0x14 ∷ []) finds-nothing
   pub complete : CutLeaving (0x05 ∷ 0x00 ∷ 0x41 ∷ 0x14 ∷ []) (finds 65)

@@ -12,8 +12,8 @@ use Rattle.rules.specs.Flash.{Step, run}
 use Rattle.rules.specs.Page.{Form, size}
 use Rattle.rules.specs.Store.{states, value}
 use Rattle.rules.specs.Steps.{format-steps, is-value}
-use Rattle.rules.proofs.Rows.{blank-read-goes-on, read-goes-on, write-more, write-goes-on}
-use Rattle.rules.specs.Call.{first-of, page-count, pages, wrong-size, store-number, then, write-number, blank-read-number, read-number}
+use Rattle.rules.proofs.Rows.{then, blank-read-goes-on, read-goes-on, write-goes-on}
+use Rattle.rules.specs.Call.{first-of, page-count, pages, wrong-size, store-number, write-only-rows, write-number, blank-read-number, read-number}
 use Rattle.rules.specs.Call.{is-unclean, wrong-address, is-held, no-room, order-end, accepted, format, stepped, read, or-value}
 use Rattle.rules.specs.Call.{blank-value, blank-read, digits, among, lookup, OK, SIZE, ADDRESS, NOT-HELD, UNCLEAN, NO-ROOM, ORDER-END}
 
@@ -121,7 +121,7 @@ module _ (fm : Form) (a v : ℕ) (i : List ℕ) where
   write-store h = write-goes-on fm i a v ∙ then-refused (store-number fm i) _ h
 
   module _ (ok : store-number fm i ≡ 0) where
-    behind : write-number fm a v i ≡ first-of (write-more fm i a v)
+    behind : write-number fm a v i ≡ first-of (write-only-rows a v (pages fm i))
     behind = write-goes-on fm i a v ∙ then-ok (store-number fm i) _ ok
 
     pub write-unclean : is-unclean (states (pages fm i)) ≡ true → write-number fm a v i ≡ UNCLEAN

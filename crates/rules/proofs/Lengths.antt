@@ -38,16 +38,16 @@ open-long p o a v = simp (length-append, word-length)
 
 -- ---- a move: of every page but one, three steps
 
-renewals-all : (edition p k : ℕ) (ps : List Page) → p < k → length (renewals edition (other p) k ps) ≡ 3 * length ps
+renewals-all : (edition p k : ℕ) (ps : List Page) → p < k → length (renewals edition (λ j s. other p j) k ps) ≡ 3 * length ps
 unfolding renewals add-steps other
 renewals-all edition p k [] h = refl
 renewals-all edition p k (x ∷ ps) h =
     let rest = renewals-all edition p (suc k) ps (omega arith) in
     let three = renew-length edition k (renewed-wear (x .wear)) in
-    let l = length-append (renew edition k (renewed-wear (x .wear))) (renewals edition (other p) (suc k) ps) in
+    let l = length-append (renew edition k (renewed-wear (x .wear))) (renewals edition (λ j s. other p j) (suc k) ps) in
     rw (ne-eqb k p (λ e. omega arith)) (omega arith)
 
-renewals-others : (edition p k : ℕ) (ps : List Page) → k ≤ p → p < k + length ps → length (renewals edition (other p) k ps) + 3 ≡ 3 * length ps
+renewals-others : (edition p k : ℕ) (ps : List Page) → k ≤ p → p < k + length ps → length (renewals edition (λ j s. other p j) k ps) + 3 ≡ 3 * length ps
 unfolding renewals add-steps other
 renewals-others edition p k [] h g = absurd (omega arith)
 renewals-others edition p k (x ∷ ps) h g =
@@ -56,7 +56,7 @@ renewals-others edition p k (x ∷ ps) h g =
     let ne = eqb-false k p t in
     let rest = renewals-others edition p (suc k) ps (omega arith) (omega arith) in
     let three = renew-length edition k (renewed-wear (x .wear)) in
-    let l = length-append (renew edition k (renewed-wear (x .wear))) (renewals edition (other p) (suc k) ps) in
+    let l = length-append (renew edition k (renewed-wear (x .wear))) (renewals edition (λ j s. other p j) (suc k) ps) in
     rw t (omega arith))
 
 copies-long : (p k : ℕ) (rs : List Setting) → length (copy-steps p k rs) ≡ 2 * length rs
@@ -74,5 +74,5 @@ pub move-long : (edition p o : ℕ) (rs : List Setting) (ps : List Page) → p <
     → length (move-steps edition p o rs ps) + 3 ≡ 4 + 2 * length rs + 3 * length ps
 unfolding move-steps
 move-long edition p o rs ps h =
-    let others = renewals edition (other p) 0 ps in
+    let others = renewals edition (λ j s. other p j) 0 ps in
     omega (arith, fill-long p o rs, renewals-others edition p 0 ps (omega arith) (omega arith), length-append (fill-steps p o rs) others)

@@ -99,7 +99,7 @@ module _ (c : Frame) (J : List Setting) (f : Pages) (w : Word) (r : Pages) (t : 
 
     -- every other page is renewed
     abbrev renewing : Pages → List Step
-    renewing F = renewals (c .form .edition) (other (length f)) 0 (told (c .form .edition) F)
+    renewing F = renewals (c .form .edition) (λ j s. other (length f) j) 0 (told (c .form .edition) F)
 
     room-there : replicate (slots-in c) blank-word ≡ room cs (replicate j blank-word)
     room-there = room-is cs (slots-in c) fits
@@ -166,7 +166,7 @@ module _ (c : Frame) (J : List Setting) (f : Pages) (w : Word) (r : Pages) (t : 
     done-run = word-run (words-in c) f r (w ∷ opening-word 2 o ∷ []) filled (done-word o)
 
     -- the page that was taken is none of those renewed
-    other-not : (s : State) → other (length f) (0 + length f) s ≡ false
+    other-not : (s : State) → other (length f) (0 + length f) ≡ false
     unfolding other
     other-not s = let e : 0 + length f ≡ length f = omega arith in rw e (ap not (eq-eqb (length f) (length f) refl))
 
@@ -174,17 +174,18 @@ module _ (c : Frame) (J : List Setting) (f : Pages) (w : Word) (r : Pages) (t : 
     renewing-same =
         let was = taken-page (slots-in c) w in
         let is = receives (done-word o) filled in
-        ap (renewals (c .form .edition) (other (length f)) 0) (told-amid (c .form .edition) f is r)
-        ∙ renewals-skip (c .form .edition) (other (length f)) 0 (told (c .form .edition) f) (page (c .form .edition) is) (page (c .form .edition) was)
+        ap (renewals (c .form .edition) (λ j s. other (length f) j) 0) (told-amid (c .form .edition) f is r)
+        ∙ renewals-skip (c .form .edition) (λ j s. other (length f) j) 0 (told (c .form .edition) f) (page (c .form .edition) is) (page (c .form .edition) was)
         (told (c .form .edition) r) (rw length-map other-not)
-        ∙ ap (renewals (c .form .edition) (other (length f)) 0) (sym (told-amid (c .form .edition) f was r))
+        ∙ ap (renewals (c .form .edition) (λ j s. other (length f) j) 0) (sym (told-amid (c .form .edition) f was r))
 
     others-through : Throughout c New (renewing (pages-now c J f w r t)) (receiving (done-word o) filled)
     others-through =
         let G = receiving (done-word o) filled in
         subst (λ (ss : List Step). Throughout c New ss G) renewing-same
-        (renewals-through c o (o ∷ []) cs (other (length f)) [] G
-        (idle-amid (c .form .edition) o (other (length f)) 0 f (receives (done-word o) filled) r (others-unused .0) (others-unused .1) other-not) done-keeps)
+        (renewals-through c o (o ∷ []) cs (λ j s. other (length f) j) [] G
+        (idle-amid (c .form .edition) o (λ j s. other (length f) j) 0 f (receives (done-word o) filled) r (others-unused .0) (others-unused .1) other-not)
+        done-keeps)
 
     pub move-turns : Turning c Old New (move-steps (c .form .edition) (length f) o cs (told (c .form .edition) (pages-now c J f w r t))) (pages-now c J f w r t)
     unfolding move-steps fill-steps

@@ -61,6 +61,9 @@ format-allowed fm i w =
 
 -- ---- a store with an open page has a used one
 
+positive : (n : ℕ) → (n ≡ 0 → ⊥) → 0 < n
+positive n h = omega arith
+
 makes-base : (b : ℕ) (s : State) → order₂ s ≡ b → 0 < b → used b s ≡ true
 unfolding order₂ used
 makes-base b (cleared n) e l = absurd (omega arith)
@@ -89,9 +92,6 @@ base-used (s ∷ ss) =
     ⊎-elim (λ (z : base ss ≡ 0). absurd (omega arith))
     (λ (c : 0 < count (used (base ss)) ss). inr (rw e (more (used (base ss) s) (count (used (base ss)) ss) c))) rest)
   where
-    positive : (n : ℕ) → (n ≡ 0 → ⊥) → 0 < n
-    positive n h = omega arith
-
     more : (b : Bool) (n : ℕ) → 0 < n → 0 < cond b 1 0 + n
     more true n h = omega arith
     more false n h = omega arith
@@ -113,9 +113,6 @@ all-open-used (s ∷ ss) = ap₂ (λ (b : Bool) (n : ℕ). cond b 1 0 + n) (open
 pub some-used : (ss : List State) → (count is-open ss ≡ 0 → ⊥) → 0 < count (used (base ss)) ss
 some-used ss h =
     ⊎-elim (λ (z : base ss ≡ 0). rw z (positive (count (used 0) ss) (λ e. h (all-open-used ss ∙ e)))) (λ c. c) (base-used ss)
-  where
-    positive : (n : ℕ) → (n ≡ 0 → ⊥) → 0 < n
-    positive n h = omega arith
 
 -- ---- an accepted image
 

@@ -7,9 +7,9 @@ use native.Mathlib.Omega.{arith}
 use Rattle.rules.specs.Page.{Form}
 use Rattle.rules.specs.Store.{states, value}
 use Rattle.rules.specs.Steps.{is-value}
-use Rattle.rules.specs.Call.{Row, row, first-of, then, pages, wrong-size, no-store, damaged, is-unclean, wrong-address, is-held, no-room}
-use Rattle.rules.specs.Call.{order-end, store-rows, store-number, blank-read-rows, blank-read-number, read-rows, read-number, write-rows}
-use Rattle.rules.specs.Call.{write-number, OK, UNCLEAN, ADDRESS, NO-ROOM, ORDER-END, NOT-HELD}
+use Rattle.rules.specs.Call.{Row, row, first-of, pages, wrong-size, no-store, damaged, is-unclean, wrong-address, is-held, no-room}
+use Rattle.rules.specs.Call.{order-end, store-rows, store-number, blank-read-rows, blank-read-number, read-rows, read-number, write-only-rows}
+use Rattle.rules.specs.Call.{write-rows, write-number, OK, ADDRESS, NOT-HELD}
 
 -- every test fails, up to a row of OK whose test holds
 unfoldable pub AllFail : List Row → Type 0
@@ -31,6 +31,11 @@ none-given [] h = refl
 none-given (row zero true ∷ rows) h = refl
 none-given (row zero false ∷ rows) h = none-given rows (h refl)
 none-given (row (suc n) t ∷ rows) h = rw (h .0) (none-given rows (h .1))
+
+-- the next number, unless one is given already
+unfoldable pub then : ℕ → ℕ → ℕ
+then zero next = next
+then (suc n) next = suc n
 
 -- a table that goes on behind rows that all refuse
 unfoldable pub Refusing : List Row → Type 0
@@ -68,19 +73,9 @@ module _ (fm : Form) (i : List ℕ) where
   unfolding read-number read-rows blank-read-number blank-read-rows store-rows first-of Refusing
   read-goes-on a = goes-on (blank-read-rows fm a i) (row NOT-HELD (not (is-held (value a (pages fm i)))) ∷ []) tt
 
-  -- the tests of a write behind those of the store
-  abbrev pub write-more : (a v : ℕ) → List Row
-  write-more a v =
-      row UNCLEAN (is-unclean (states (pages fm i)))
-      ∷ row ADDRESS (wrong-address a)
-      ∷ row OK (is-value (value a (pages fm i)) v)
-      ∷ row NO-ROOM (no-room a (pages fm i))
-      ∷ row ORDER-END (order-end (pages fm i))
-      ∷ []
-
-  pub write-goes-on : (a v : ℕ) → write-number fm a v i ≡ then (store-number fm i) (first-of (write-more a v))
+  pub write-goes-on : (a v : ℕ) → write-number fm a v i ≡ then (store-number fm i) (first-of (write-only-rows a v (pages fm i)))
   unfolding write-number write-rows store-number
-  write-goes-on a v = goes-on (store-rows fm i) (write-more a v) store-refuses
+  write-goes-on a v = goes-on (store-rows fm i) (write-only-rows a v (pages fm i)) store-refuses
 
   -- an accepted write passed each test
   pub record WriteFails (a v : ℕ) : Type 0 where

@@ -99,30 +99,11 @@ pub checked-sound : (a b c : ℕ) → sound (checked a b c) ≡ true
 unfolding checked sound
 checked-sound a b c = eq-eqb (check a b c) (check a b c) refl
 
--- the bytes of a word that is read are bytes
-pub data IsWord : Word → Type 0 where
-  is-word : {a b c d : ℕ} → a < 256 → b < 256 → c < 256 → d < 256 → IsWord (word a b c d)
-
-pub checked-is-word : (a b c : ℕ) → a < 256 → b < 256 → c < 256 → IsWord (checked a b c)
-unfolding checked
-checked-is-word a b c p q r = let s : check a b c < 256 = omega (arith, check-bound a b c) in is-word p q r s
-
--- a sound word is made of its first three bytes
-pub sound-is-checked : (a b c d : ℕ) → sound (word a b c d) ≡ true → checked a b c ≡ word a b c d
-unfolding checked
-sound-is-checked a b c d s = let e = sound-check a b c d s in cc
-
--- two bytes of a number below 65,536, low byte first, and back
+-- the two bytes of a number, low byte first
 pub split16 : (n : ℕ) → n % 256 + 256 * (n / 256) ≡ n
 split16 n = omega arith
 
-pub join16-low : (a b : ℕ) → a < 256 → (a + 256 * b) % 256 ≡ a
-join16-low a b h = omega arith
-
-pub join16-high : (a b : ℕ) → a < 256 → (a + 256 * b) / 256 ≡ b
-join16-high a b h = omega arith
-
--- three bytes of a number below 2 ^ 24, low byte first, and back
+-- the three bytes of a number, low byte first
 pub split24 : (n : ℕ) → n % 256 + 256 * (n / 256 % 256) + 65536 * (n / 65536) ≡ n
 split24 n = omega arith
 
@@ -137,14 +118,6 @@ record-value a v = refl
 pub record-sound : (a v : ℕ) → sound (record-word a v) ≡ true
 unfolding record-word
 record-sound a v = checked-sound (a % 256) (a / 256) v
-
-pub record-is-word : (a v : ℕ) → a < 65536 → v < 256 → IsWord (record-word a v)
-unfolding record-word
-record-is-word a v p q = checked-is-word (a % 256) (a / 256) v (omega arith) (omega arith) q
-
-pub record-of : (w : Word) → IsWord w → sound w ≡ true → record-word (low16 w) (third w) ≡ w
-unfolding record-word low16 third
-record-of (word a b c d) (is-word p q r s) t = rw (join16-low a b p, join16-high a b p) (sound-is-checked a b c d t)
 
 pub wear-is : (m n : ℕ) → low16 (wear-word m n) ≡ n
 unfolding low16 wear-word checked
@@ -165,15 +138,6 @@ number-is n = split24 n
 pub number-sound : (n : ℕ) → sound (number-word n) ≡ true
 unfolding number-word
 number-sound n = checked-sound (n % 256) (n / 256 % 256) (n / 65536)
-
-pub number-of : (w : Word) → IsWord w → sound w ≡ true → number-word (low24 w) ≡ w
-unfolding number-word low24
-number-of (word a b c d) (is-word p q r s) t =
-    let ea : (a + 256 * b + 65536 * c) % 256 ≡ a = omega arith in
-    let high : (a + 256 * b + 65536 * c) / 256 ≡ b + 256 * c = omega arith in
-    let eb : (a + 256 * b + 65536 * c) / 256 % 256 ≡ b = rw high (join16-low b c q) in
-    let ec : (a + 256 * b + 65536 * c) / 65536 ≡ c = omega arith in
-    rw (ea, eb, ec) (sound-is-checked a b c d t)
 
 -- the order and the kind of an opening word
 pub opening-order : (k o : ℕ) → k < 4 → order-in (opening-word k o) ≡ o

@@ -11,12 +11,12 @@ use borrow.Author.Tests.{eqb-true, eqb-false, leb-true}
 use Rattle.rules.specs.Word.{Word}
 use Rattle.rules.specs.Page.{is-wear, Page}
 use Rattle.rules.specs.Store.{states, is-cleared, active-index, active-slots, free-slot, Setting, setting, settings, value, last-of, put-all, count}
-use Rattle.rules.specs.Steps.{unclean, Way, append-to, open-at, move-to, way, way-steps, new-page, next-order, write-steps, taken, copies, but}
+use Rattle.rules.specs.Steps.{unclean, Way, append-to, open-at, move-to, way, way-steps, new-page, next-order, write-steps, taken, move-records, but}
 use Rattle.rules.specs.Steps.{has-free-slot, is-value}
 use Rattle.rules.specs.Call.{among, repeats}
 use Rattle.rules.proofs.Truth.{by-cases, not-both}
 use Rattle.rules.proofs.Slots.{Lawful, put-all-lawful, but-lawful, lawful-append}
-use Rattle.rules.proofs.Settings.{last-of-here, last-of-other, copies-few, copies-length, copies-last}
+use Rattle.rules.proofs.Settings.{last-of-here, last-of-other, moved-few, moved-length, moved-last}
 use Rattle.rules.proofs.Phases.{Pages, both, turns-map}
 use Rattle.rules.proofs.Told.{told}
 use Rattle.rules.proofs.Active.{taken-page, Takes, takes, some-cleared}
@@ -101,7 +101,7 @@ module _ (c : Frame) (a v : ℕ) (t : ℕ → Option ℕ) where
         rw place (turns-map (old F h fresh) (new F h fresh) (open-case c K f w r taking a v (writable F h fresh) (omega arith)))
 
     abbrev copied : List Setting
-    copied = but a (put-all [] K) ++ setting a v ∷ []
+    copied = move-records a v (put-all [] K)
 
     copied-lawful : Lawful copied
     unfolding Lawful
@@ -112,18 +112,18 @@ module _ (c : Frame) (a v : ℕ) (t : ℕ → Option ℕ) where
     moved : (o : ℕ) (G : Pages) → Keeps c o (o ∷ []) copied G → Has c (changed a v t) G
     unfolding repeats among
     moved o G k =
-        let few = copies-few a v K (c .limit) (h .has .good .few) (writable F h fresh .room) in
+        let few = moved-few a v K (c .limit) (h .has .good .few) (writable F h fresh .room) in
         record {
           journal = copied;
           good = record { base-order = o; used-by = o ∷ []; keeps = k; apart = refl; spare = c .two; some = omega arith; few = few };
-          values = λ x. copies-last x a v K ∙ gained a v t K (h .has .values) x;
+          values = λ x. moved-last x a v K ∙ gained a v t K (h .has .values) x;
         }
 
     moves : Goes (λ ps. move-to (taken ps) (next-order ps)) F
-    unfolding way-steps copies settings
+    unfolding way-steps settings
     moves =
         let g = h .has .good in
-        let x = copies-length a v K (c .limit) (g .few) (writable F h fresh .room) in
+        let x = moved-length a v K (c .limit) (g .few) (writable F h fresh .room) in
         let y = c .fits in
         rw (place, journal-is c K F g)
         (turns-map (λ G k. old F h fresh G (good-still c K F g K (g .few) G k)) (moved (next c K f w r taking))

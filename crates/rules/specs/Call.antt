@@ -59,11 +59,14 @@ unfoldable pub cut : (size n : ℕ) → List ℕ → List (List Word)
 cut size zero i = []
 cut size (suc n) i = words (take size i) ∷ cut size n (drop size i)
 
+abbrev pub first-pages : (form : Form) (n : ℕ) → List ℕ → List Page
+first-pages f n i = map (page (f .edition)) (cut (size f) n i)
+
 unfoldable pub page-count : Form → List ℕ → ℕ
 page-count f i = length i / size f
 
 unfoldable pub pages : Form → List ℕ → List Page
-pages f i = map (page (f .edition)) (cut (size f) (page-count f i) i)
+pages f i = first-pages f (page-count f i) i
 
 -- N1. SIZE: the page size does not divide the length, or there are fewer than 2 pages or more than 32.
 unfoldable pub wrong-size : Form → List ℕ → Bool
@@ -118,10 +121,6 @@ unfoldable pub first-of : List Row → ℕ
 first-of [] = OK
 first-of (row n t ∷ rows) = cond t n (first-of rows)
 
-unfoldable pub then : ℕ → ℕ → ℕ
-then zero next = next
-then (suc n) next = suc n
-
 -- N21. Which call gives which: recovery and lookup 1 to 3, blank read 5 besides, read 8 besides.
 unfoldable pub store-rows : (form : Form) → List ℕ → List Row
 store-rows f i = row SIZE (wrong-size f i) ∷ row NO-STORE (no-store (pages f i)) ∷ row DAMAGED (damaged (pages f i)) ∷ []
@@ -133,15 +132,17 @@ unfoldable pub read-rows : (form : Form) (address : ℕ) → List ℕ → List R
 read-rows f a i = blank-read-rows f a i ++ (row NOT-HELD (not (is-held (value a (pages f i)))) ∷ [])
 
 -- Write gives 1 to 7. N23. The held value: it is not tested for 6 and 7, so a row of OK ends the table there.
-unfoldable pub write-rows : (form : Form) (address value : ℕ) → List ℕ → List Row
-write-rows f a v i =
-    store-rows f i
-    ++ (row UNCLEAN (is-unclean (states (pages f i)))
+abbrev pub write-only-rows : (address value : ℕ) → List Page → List Row
+write-only-rows a v ps =
+    row UNCLEAN (is-unclean (states ps))
     ∷ row ADDRESS (wrong-address a)
-    ∷ row OK (is-value (value a (pages f i)) v)
-    ∷ row NO-ROOM (no-room a (pages f i))
-    ∷ row ORDER-END (order-end (pages f i))
-    ∷ [])
+    ∷ row OK (is-value (value a ps) v)
+    ∷ row NO-ROOM (no-room a ps)
+    ∷ row ORDER-END (order-end ps)
+    ∷ []
+
+unfoldable pub write-rows : (form : Form) (address value : ℕ) → List ℕ → List Row
+write-rows f a v i = store-rows f i ++ write-only-rows a v (pages f i)
 
 unfoldable pub store-number : (form : Form) → List ℕ → ℕ
 store-number f i = first-of (store-rows f i)

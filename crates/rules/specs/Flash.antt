@@ -73,9 +73,9 @@ pub record Fails (size : ℕ) (s : Step) (i j : List ℕ) : Type 0 where
   pub rises : AllRise (least size s i) left
   pub image : j ≡ sets i (offset size s) left
 
--- F10. Between steps. Power fails in a list of steps: n of them are done, and the next, if there is one, is not begun or fails. With n the number
--- of steps, the list is finished. What they change may be an image or its pages: `does` is what a step makes of it, and
--- `Leaves` what it may leave of it if it fails.
+-- F10. Between steps. Power fails in a list of steps: n of them are done, and the next, if there is one, is not begun or fails.
+-- With n the number of steps, the list is finished. What they change may be an image or its pages: `does` is what a step makes
+-- of it, and `Leaves` what it may leave of it if it fails.
 pub data Left {S : Type 0} (does : Step → S → S) (Leaves : Step → S → S → Type 0) : ℕ → List Step → (before left : S) → Type 0 where
   between : {ss : List Step} {i : S} → Left does Leaves 0 ss i i
   failing : {s : Step} {ss : List Step} {i j : S} → Leaves s i j → Left does Leaves 0 (s ∷ ss) i j

@@ -83,35 +83,35 @@ append-steps p k a v = word-steps p (slot-place k) (record-word a v)
 unfoldable pub open-steps : (page order address value : ℕ) → List Step
 open-steps p o a v = word-steps p opening-place (opening-word 1 o) ++ word-steps p (slot-place 0) (record-word a v)
 
--- C12. Copies: a record for each held address but the written one, addresses rising; behind them the new one.
+-- C12. Copies: each held address but the written one, addresses rising. The records of a move: the copies, behind them the new one.
 unfoldable pub but : (address : ℕ) → List Setting → List Setting
 but a [] = []
 but a (setting b u ∷ rs) = cond (eqb a b) (but a rs) (setting b u ∷ but a rs)
 
-unfoldable pub copies : (address value : ℕ) → List Page → List Setting
-copies a v ps = but a (settings ps) ++ (setting a v ∷ [])
+abbrev pub move-records : (address value : ℕ) (held : List Setting) → List Setting
+move-records a v held = but a held ++ (setting a v ∷ [])
 
 unfoldable pub copy-steps : (page slot : ℕ) → List Setting → List Step
 copy-steps p k [] = []
 copy-steps p k (setting a v ∷ rs) = word-steps p (slot-place k) (record-word a v) ++ copy-steps p (suc k) rs
 
--- C11. Move: the opening word, kind 2, the copies from slot 0 on, the done word.
+-- C11. Move: the opening word, kind 2, the records from slot 0 on, the done word.
 unfoldable pub fill-steps : (page order : ℕ) → List Setting → List Step
 fill-steps p o rs =
     word-steps p opening-place (opening-word 2 o) ++ copy-steps p 0 rs ++ word-steps p done-place (done-word o)
 
 -- C13. Then every other page is renewed: none of them is used by then, and none is cleared.
-unfoldable pub other : (page index : ℕ) → State → Bool
-other p k s = not (eqb k p)
+unfoldable pub other : (page index : ℕ) → Bool
+other p k = not (eqb k p)
 
 unfoldable pub move-steps : (edition page order : ℕ) → List Setting → List Page → List Step
-move-steps edition p o rs ps = fill-steps p o rs ++ renewals edition (other p) 0 ps
+move-steps edition p o rs ps = fill-steps p o rs ++ renewals edition (λ k s. other p k) 0 ps
 
 unfoldable pub way-steps : (edition address value : ℕ) → List Page → Way → List Step
 way-steps edition a v ps stay = []
 way-steps edition a v ps (append-to p k) = append-steps p k a v
 way-steps edition a v ps (open-at p o) = open-steps p o a v
-way-steps edition a v ps (move-to p o) = move-steps edition p o (copies a v ps) ps
+way-steps edition a v ps (move-to p o) = move-steps edition p o (move-records a v (settings ps)) ps
 
 unfoldable pub write-steps : (edition address value : ℕ) → List Page → List Step
 write-steps edition a v ps = way-steps edition a v ps (way a v ps)

@@ -3,13 +3,13 @@ use Prim.Native.Nat.{ℕ, zero, suc}
 use mathlib.Core.List.{List, [], _∷_, _++_}
 use lib.ListN.{getD}
 use Rattle.rules.specs.Store.{Setting, setting}
-use Rattle.rules.specs.Steps.{but}
+use Rattle.rules.specs.Steps.{move-records}
 
 -- the first n rows of the two arrays
 unfoldable pub rows : (addresses values : List ℕ) → (n : ℕ) → List Setting
 rows xs ys zero = []
 rows xs ys (suc n) = rows xs ys n ++ (setting (getD xs n 0) (getD ys n 0) ∷ [])
 
--- C12. Copies: every held address but the written one, by rising address; then the new record.
+-- C12. the records of a move, of that table
 unfoldable pub copied : (addresses values : List ℕ) → (held address value : ℕ) → List Setting
-copied xs ys n a v = but a (rows xs ys n) ++ (setting a v ∷ [])
+copied xs ys n a v = move-records a v (rows xs ys n)

@@ -12,6 +12,7 @@ ghost use Rattle.pages.specs.Read.{as-form, Lawful};
 ghost use Rattle.steps.specs.Picked.{wear-at, picked-steps};
 ghost use Rattle.steps.specs.Copied.{copied};
 use pages::Form;
+use pages::PAGES_MAX;
 use settings::HELD_MAX;
 use words::Word;
 
@@ -81,7 +82,13 @@ pub fn renew_worn(image: &mut [u8], form: Form, page: usize, left: u16) -> u16
 }
 
 // Renews the picked pages among the first n, in index order.
-pub fn renew_picked(image: &mut [u8], form: Form, n: usize, picks: [bool; 32], left: u16) -> u16
+pub fn renew_picked(
+    image: &mut [u8],
+    form: Form,
+    n: usize,
+    picks: [bool; PAGES_MAX],
+    left: u16,
+) -> u16
     requires { ⌜ Lawful form × (n ≤ 32) × (n * size (as-form form) ≤ length (now image)) ⌝ }
     ensures { λ r. ⌜ r ≡ left - length (picked-steps (as-form form) n picks (now (image .entry))) ⌝ }
     ensures { λ r. ⌜ now (image .exit) ≡ run (size (as-form form)) (take left (picked-steps (as-form form) n picks (now (image .entry))))

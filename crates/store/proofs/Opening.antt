@@ -1,16 +1,18 @@
 -- From the look at the pages and the settings to the answer. Assumes nothing.
-use Prim.Native.Nat.{ℕ}
+use Prim.Native.Nat.{ℕ, zero, suc}
 use mathlib.Core.Path.{_≡_, refl, sym, _∙_}
 use mathlib.Core.Bool.{Bool, true, false, cond, _||_}
 use mathlib.Core.List.{List}
 use lib.Dec.{eqb, ltb}
 use lib.ListN.{length}
-use borrow.Author.Tests.{eqb-true, eqb-false, lt-ltb, le-ltb, ltb-true, ltb-false}
+use native.Mathlib.Omega.{arith}
+use borrow.Author.Tests.{eqb-true, eqb-false, ne-eqb, lt-ltb, le-ltb, ltb-true, ltb-false}
 use Rattle.rules.specs.Page.{Form}
 use Rattle.rules.specs.Store.{states, base, used-orders, settings, held}
-use Rattle.rules.specs.Call.{first-of, store-rows, pages, wrong-size, no-store, repeats, all-used, damaged, store-number, then, held-limit, OK, SIZE}
+use Rattle.rules.specs.Call.{first-of, store-rows, pages, wrong-size, no-store, repeats, all-used, damaged, store-number, held-limit, accepted, OK, SIZE}
 use Rattle.rules.specs.Call.{NO-STORE, DAMAGED}
 use Rattle.rules.proofs.Truth.{by-cases}
+use Rattle.rules.proofs.Rows.{then}
 use Rattle.rules.proofs.Answers.{then-refused}
 use Rattle.survey.specs.Look.{pages-rows, pages-number}
 use Rattle.settings.specs.Held.{Holds}
@@ -27,6 +29,11 @@ held-last false false true y z = refl
 held-last false false false true z = refl
 held-last false false false false z = refl
 
+pub with-held-then : (number h : ℕ) → with-held number h ≡ then number (cond (ltb held-limit h) DAMAGED OK)
+unfolding with-held first-of accepted then
+with-held-then zero h = refl
+with-held-then (suc n) h = rw (ne-eqb (suc n) 0 (λ e. omega arith))
+
 module _ (fm : Form) (i : List ℕ) where
   abbrev too-many : Bool
   too-many = ltb held-limit (held (pages fm i))
@@ -42,9 +49,9 @@ module _ (fm : Form) (i : List ℕ) where
       then-refused number next ne ∙ e ∙ sym (then-refused (pages-number fm i) (cond too-many DAMAGED OK) (λ q. ne (e ∙ q))) ∙ pages-then-held
 
   pub with-held-is : (number h : ℕ) → number ≡ pages-number fm i → (number ≡ 0 → ltb held-limit h ≡ too-many) → with-held number h ≡ store-number fm i
-  unfolding with-held
   with-held-is number h e same =
-      by-cases (eqb number 0) (λ z. rw (same (eqb-true number 0 z), e) pages-then-held)
+      with-held-then number h
+      ∙ by-cases (eqb number 0) (λ z. rw (same (eqb-true number 0 z), e) pages-then-held)
       (λ z. pages-refused number (cond (ltb held-limit h) DAMAGED OK) e (eqb-false number 0 z))
 
   -- a store that is accepted has pages that are

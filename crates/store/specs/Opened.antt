@@ -1,19 +1,19 @@
 -- What a call knows of an image when it has looked at it once.
 use Prim.Native.Nat.{ℕ}
 use mathlib.Core.Path.{_≡_}
-use mathlib.Core.Bool.{cond}
-use mathlib.Core.List.{List}
+use mathlib.Core.Bool.{not}
+use mathlib.Core.List.{List, [], _∷_}
 use lib.Dec.{ltb}
 use Rattle.rules.specs.Page.{Form}
 use Rattle.rules.specs.Store.{settings}
-use Rattle.rules.specs.Call.{pages, store-number, then, held-limit, DAMAGED, OK}
+use Rattle.rules.specs.Call.{row, first-of, pages, store-number, accepted, held-limit, DAMAGED}
 use Rattle.settings.specs.Held.{Holds}
 use Rattle.survey.specs.Look.{Told}
 use Rattle.store.specs.declared.Store.{Store}
 
 -- the answer 0 to 3, from that of the pages and the number held
 unfoldable pub with-held : (number held : ℕ) → ℕ
-with-held number held = then number (cond (ltb held-limit held) DAMAGED OK)
+with-held number held = first-of (row number (not (accepted number)) ∷ row DAMAGED (ltb held-limit held) ∷ [])
 
 -- what is known of an image that is not refused: the pages, and the settings, which the table has
 pub record Holding (fm : Form) (i : List ℕ) (r : Store) (xs ys : List ℕ) : Type 0 where

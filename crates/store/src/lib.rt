@@ -1,11 +1,11 @@
 // The store in an image: the one look that serves a call, at the headers of all pages and at the slots of the used ones.
 use pages::Form;
+use pages::HEADER_SIZE;
+use pages::PAGES_MAX;
 use settings::HELD_MAX;
 use survey::DAMAGED;
-use survey::HEADER_SIZE;
 use survey::Look;
 use survey::OK;
-use survey::PAGES_MAX;
 ghost use mathlib.Core.Path.{_≡_};
 ghost use mathlib.Core.List.{[]};
 ghost use Prim.Native.Nat.{_+_, _*_, _≤_};

@@ -12,7 +12,8 @@ use Rattle.rules.specs.Page.{State}
 use Rattle.rules.specs.Store.{used, is-cleared, order, add-order, used-orders, count}
 use Rattle.rules.specs.Call.{among, repeats}
 use Rattle.rules.proofs.Truth.{by-cases}
-use Rattle.survey.specs.Ranks.{rank, spare, padded, ranks, spares}
+use Rattle.survey.specs.States.{padded}
+use Rattle.survey.specs.Ranks.{rank, spare, ranks, spares}
 use Rattle.survey.specs.Places.{taken-places, doubled}
 use Rattle.survey.proofs.Padded.{taken-padded}
 use Rattle.survey.proofs.Ranks.{rank-used, rank-unused, rank-zero, spare-zero, ranks-whole, spares-whole}
@@ -26,7 +27,7 @@ module _ (test : State → Bool) (f : State → ℕ) (h : (s : State) → eqb (f
   taken-map [] = refl
   taken-map (s ∷ ss) = rw (h s, taken-map ss) (by-cases (test s) (λ t. rw t) (λ t. rw t))
 
-  taken-all : (ss : List State) → taken-places (padded (map f ss)) ≡ count test ss
+  taken-all : (ss : List State) → taken-places (padded 0 (map f ss)) ≡ count test ss
   unfolding padded
   taken-all ss = taken-padded (map f ss) (32 - length (map f ss)) ∙ taken-map ss
 

@@ -1,8 +1,8 @@
 -- Laws of the code's own, for its proofs and for the crates above.
 pub mod Sizes
 pub mod Arrays
+pub mod Padded
 mod States
-mod Padded
 pub mod Ranks
 pub mod Counts
 mod Greatest

@@ -8,7 +8,7 @@ use lib.ListN.{length, getD, take, drop, length-append}
 use lib.Seq.{getD-take}
 use lib.Dec.{eqb}
 use borrow.Author.Tests.{eqb-true, eqb-false, eq-eqb, ne-eqb}
-use Rattle.rules.specs.Page.{Form, size, State}
+use Rattle.rules.specs.Page.{Form, size, State, bad}
 use Rattle.rules.specs.Store.{Under, states, base, used, is-open, is-cleared, used-orders, count, active-index, active-order, active-slots, slots-at, free-slot}
 use Rattle.rules.specs.Steps.{unclean}
 use Rattle.rules.specs.Call.{first-of, page-count, pages, wrong-size, no-store, repeats, all-used, OK, NO-STORE, DAMAGED}
@@ -19,16 +19,16 @@ use Rattle.rules.proofs.Stores.{length-states, orders-used, count-all, count-op
 use Rattle.rules.proofs.Ready.{right-sizes, some-used}
 use Rattle.pages.specs.Read.{as-state}
 use Rattle.pages.specs.declared.State.{State as Code}
-use Rattle.survey.specs.States.{Counted, first-states, filled, OrdersFit, slots-in}
-use Rattle.survey.specs.Ranks.{rank, spare, padded, ranks, spares}
+use Rattle.survey.specs.States.{Counted, first-states, padded, OrdersFit, slots-in}
+use Rattle.survey.specs.Ranks.{rank, spare, ranks, spares}
 use Rattle.survey.specs.Places.{taken-places, doubled, lined, Falls, at-places}
 use Rattle.survey.specs.declared.Look.{Look}
 use Rattle.survey.specs.Look.{pages-rows, pages-number, counted-number, Lines, Told}
 use Rattle.survey.proofs.Arrays.{getD-padded}
 use Rattle.survey.proofs.Padded.{newest-padded}
 use Rattle.survey.proofs.Sizes.{counted-none, counted-some}
-use Rattle.survey.proofs.States.{states-looked, fit-filled, base-filled}
-use Rattle.survey.proofs.Ranks.{ranks-filled, ranks-whole, ranks-under, spares-filled}
+use Rattle.survey.proofs.States.{states-looked, fit-padded, base-padded}
+use Rattle.survey.proofs.Ranks.{ranks-padded, ranks-whole, ranks-under, spares-padded}
 use Rattle.survey.proofs.Counts.{count-ranks, count-spares, repeats-ranks}
 use Rattle.survey.proofs.Active.{active-newest, active-rank, active-below, active-inside}
 use Rattle.survey.proofs.Line.{length-lined, lined-last, first-places, under-at, Lists, lists}
@@ -94,7 +94,7 @@ module _ (fm : Form) (i : List ℕ) (ok : pages-number fm i ≡ 0) where
 -- what the functions gave of an image: its pages counted, n, and the used ones, u; their states, xs, base order and ranks, rs
 pub record Given (fm : Form) (i : List ℕ) (n u : ℕ) (xs : List Code) (rs : List ℕ) : Type 0 where
   pub counted : Counted fm i n
-  pub stated : map as-state xs ≡ filled (first-states fm n i)
+  pub stated : map as-state xs ≡ padded bad (first-states fm n i)
   pub fitting : OrdersFit (map as-state xs)
   pub base-order : ℕ
   pub based : base-order ≡ base (map as-state xs)
@@ -106,7 +106,7 @@ pub record Seen (fm : Form) (i : List ℕ) (n u : ℕ) (xs : List Code) (rs : Li
   pub sized : wrong-size fm i ≡ false
   pub counts : n ≡ page-count fm i
   pub long : length (states (pages fm i)) ≡ n
-  pub states-are : map as-state xs ≡ filled (states (pages fm i))
+  pub states-are : map as-state xs ≡ padded bad (states (pages fm i))
   pub fits : OrdersFit (states (pages fm i))
   pub ranks-are : rs ≡ ranks (base (states (pages fm i))) (states (pages fm i))
   pub used-are : u ≡ count (used (base (states (pages fm i)))) (states (pages fm i))
@@ -119,16 +119,16 @@ module _ {fm : Form} {i : List ℕ} {n u : ℕ} {xs : List Code} {rs : List ℕ}
       let sl = states-looked (g .counted) ne in
       let all = states (pages fm i) in
       let b = g .base-order in
-      let es : map as-state xs ≡ filled all = g .stated ∙ ap filled (sl .0) in
-      let eb : b ≡ base all = g .based ∙ ap base es ∙ base-filled all in
-      let er : rs ≡ ranks (base all) all = g .ranked ∙ ap (map (rank b)) es ∙ ranks-filled b all ∙ ap (λ (x : ℕ). ranks x all) eb in
+      let es : map as-state xs ≡ padded bad all = g .stated ∙ ap (padded bad) (sl .0) in
+      let eb : b ≡ base all = g .based ∙ ap base es ∙ base-padded all in
+      let er : rs ≡ ranks (base all) all = g .ranked ∙ ap (map (rank b)) es ∙ ranks-padded b all ∙ ap (λ (x : ℕ). ranks x all) eb in
       let few : length all ≤ 32 = omega (arith, g .counted .most, sl .1) in
       record {
         sized = w .0;
         counts = w .1;
         long = sl .1;
         states-are = es;
-        fits = fit-filled all (subst OrdersFit es (g .fitting));
+        fits = fit-padded all (subst OrdersFit es (g .fitting));
         ranks-are = er;
         used-are = g .uses ∙ ap (λ (x : List ℕ). taken-places (take 32 x)) er ∙ count-ranks (base all) all few;
         apart = ap (λ (x : List ℕ). doubled (take 32 x)) er ∙ repeats-ranks (base all) all few;
@@ -236,7 +236,7 @@ module _ {fm : Form} {i : List ℕ} {n u : ℕ} {xs : List Code} {rs : List ℕ}
 
   module _ {sp : List ℕ} (e : sp ≡ map spare (map as-state xs)) where
     pub spares-told : sp ≡ spares all
-    spares-told = e ∙ ap (map spare) (s .states-are) ∙ spares-filled all
+    spares-told = e ∙ ap (map spare) (s .states-are) ∙ spares-padded all
 
     pub cleared-told : {c : ℕ} → c ≡ taken-places (take 32 sp) → c ≡ count is-cleared all
     cleared-told q = q ∙ ap (λ (ys : List ℕ). taken-places (take 32 ys)) spares-told ∙ count-spares all few

@@ -1,37 +1,44 @@
--- Numbers with 0 in the places that are left of 32: the zeros change nothing that is asked of the numbers. Assumes nothing.
-use Prim.Native.Nat.{ℕ, zero, suc, _+_, _-_, _≤_}
+-- A list in an array of 32 places. Numbers with 0 in the places that are left: the zeros change nothing that is asked of the
+-- numbers. Assumes nothing.
+use Prim.Native.Nat.{ℕ, zero, suc, _+_, _-_, _≤_, _<_}
 use mathlib.Core.Path.{_≡_, refl, sym, ap, _∙_}
 use mathlib.Core.Bool.{cond}
 use mathlib.Core.List.{List, [], _∷_, _++_, map, map-append}
 use native.Mathlib.Omega.{arith}
-use lib.ListN.{length, take, getD, replicate, length-append, length-map, length-replicate, List·getD-map}
+use lib.ListN.{length, take, getD, set, replicate, length-append, length-map, length-replicate, List·getD-map}
 use lib.Seq.{take-all}
 use lib.Dec.{eqb, ltb}
 use Rattle.rules.specs.Page.{State, bad}
 use Rattle.rules.proofs.Truth.{by-cases}
-use Rattle.survey.specs.States.{filled}
-use Rattle.survey.specs.Ranks.{padded}
+use Rattle.survey.specs.States.{padded}
 use Rattle.survey.specs.Places.{taken-places, greatest-below, newest, next-below, lined, Falls}
-use Rattle.survey.proofs.Arrays.{map-replicate, getD-padded}
+use Rattle.survey.proofs.Arrays.{next-place, map-replicate, getD-padded}
 use Rattle.survey.proofs.Greatest.{newest-stays}
 
 -- ---- the 32 places
 
-length-padded : (xs : List ℕ) → length xs ≤ 32 → length (padded xs) ≡ 32
+-- a store in the first place that is left
+pub padded-next : {A : Type 0} (d : A) (xs : List A) (n : ℕ) (a : A) → length xs ≡ n → n < 32 → set (padded d xs) n a ≡ padded d (xs ++ (a ∷ []))
+unfolding padded
+padded-next d xs n a e h =
+    let l : length (xs ++ (a ∷ [])) ≡ n + 1 = length-append xs (a ∷ []) ∙ ap (λ (m : ℕ). m + 1) e in
+    rw (e, l) (next-place 32 xs n d a e h)
+
+length-padded : (xs : List ℕ) → length xs ≤ 32 → length (padded 0 xs) ≡ 32
 unfolding padded
 length-padded xs h =
     omega (arith, length-append xs (replicate (32 - length xs) 0), length-replicate {A = ℕ} (32 - length xs) 0)
 
-pub padded-whole : (xs : List ℕ) → length xs ≤ 32 → take 32 (padded xs) ≡ padded xs
-padded-whole xs h = take-all 32 (padded xs) (omega (arith, length-padded xs h))
+pub padded-whole : (xs : List ℕ) → length xs ≤ 32 → take 32 (padded 0 xs) ≡ padded 0 xs
+padded-whole xs h = take-all 32 (padded 0 xs) (omega (arith, length-padded xs h))
 
 -- a number of each state, that of a bad page being 0
 module _ (f : State → ℕ) (z : f bad ≡ 0) (ss : List State) where
-  pub padded-map : map f (filled ss) ≡ padded (map f ss)
-  unfolding filled padded
+  pub padded-map : map f (padded bad ss) ≡ padded 0 (map f ss)
+  unfolding padded
   padded-map = map-append f ss (replicate (32 - length ss) bad) ∙ rw (map-replicate f (32 - length ss) bad, z, length-map ss f)
 
-  pub padded-at : (k : ℕ) → getD (padded (map f ss)) k 0 ≡ f (getD ss k bad)
+  pub padded-at : (k : ℕ) → getD (padded 0 (map f ss)) k 0 ≡ f (getD ss k bad)
   unfolding padded
   padded-at k =
       getD-padded (map f ss) (32 - length (map f ss)) k 0 ∙ ap (getD (map f ss) k) (sym z) ∙ List·getD-map f ss k bad

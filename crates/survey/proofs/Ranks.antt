@@ -10,7 +10,7 @@ use borrow.Author.Tests.{eqb-true, eqb-false, eq-eqb, ne-eqb}
 use Rattle.rules.specs.Page.{State, cleared, open₁, open₂, receiving, bad}
 use Rattle.rules.specs.Store.{Under, used, is-cleared, order, is-active}
 use Rattle.rules.proofs.Truth.{by-cases}
-use Rattle.survey.specs.States.{filled, OrdersFit}
+use Rattle.survey.specs.States.{padded, OrdersFit}
 use Rattle.survey.specs.Ranks.{rank, spare, ranks, spares}
 use Rattle.survey.proofs.Padded.{padded-whole, padded-map, padded-at}
 
@@ -65,9 +65,9 @@ spare-bad = refl
 -- ---- those of all pages
 
 module _ (b : ℕ) (ss : List State) where
-  pub ranks-filled : map (rank b) (filled ss) ≡ ranks b ss
+  pub ranks-padded : map (rank b) (padded bad ss) ≡ ranks b ss
   unfolding ranks
-  ranks-filled = padded-map (rank b) (rank-bad b) ss
+  ranks-padded = padded-map (rank b) (rank-bad b) ss
 
   pub ranks-whole : length ss ≤ 32 → take 32 (ranks b ss) ≡ ranks b ss
   unfolding ranks
@@ -78,9 +78,9 @@ module _ (b : ℕ) (ss : List State) where
   rank-at k = padded-at (rank b) (rank-bad b) ss k
 
 module _ (ss : List State) where
-  pub spares-filled : map spare (filled ss) ≡ spares ss
+  pub spares-padded : map spare (padded bad ss) ≡ spares ss
   unfolding spares
-  spares-filled = padded-map spare spare-bad ss
+  spares-padded = padded-map spare spare-bad ss
 
   pub spares-whole : length ss ≤ 32 → take 32 (spares ss) ≡ spares ss
   unfolding spares

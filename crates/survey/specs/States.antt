@@ -3,13 +3,13 @@ use Prim.Native.Nat.{ℕ, _-_, _*_, _≤_, _<_}
 use mathlib.Core.Path.{_≡_}
 use mathlib.Core.Logic.{_⊎_}
 use mathlib.Core.Bool.{cond}
-use mathlib.Core.List.{List, [], _∷_, _++_, map}
+use mathlib.Core.List.{List, [], _∷_, _++_}
 use lib.ListN.{length, replicate}
 use Rattle.rules.specs.Flash.{bytes-at}
 use Rattle.rules.specs.Word.{Word, words}
-use Rattle.rules.specs.Page.{Form, size, State, bad, page, slots}
+use Rattle.rules.specs.Page.{Form, size, State, slots}
 use Rattle.rules.specs.Store.{states, order}
-use Rattle.rules.specs.Call.{page-count, wrong-size, cut}
+use Rattle.rules.specs.Call.{page-count, wrong-size, first-pages}
 
 -- The number r of an image's pages, 0 if its size is wrong.
 pub record Counted (fm : Form) (i : List ℕ) (r : ℕ) : Type 0 where
@@ -20,11 +20,11 @@ pub record Counted (fm : Form) (i : List ℕ) (r : ℕ) : Type 0 where
 
 -- the states of the first n pages of an image
 unfoldable pub first-states : (form : Form) (n : ℕ) → List ℕ → List State
-first-states f n i = states (map (page (f .edition)) (cut (size f) n i))
+first-states f n i = states (first-pages f n i)
 
--- the states, with bad in the places that are left of 32
-unfoldable pub filled : List State → List State
-filled ss = ss ++ replicate (32 - length ss) bad
+-- a list in an array: the places that are left of 32 have one thing
+unfoldable pub padded : {A : Type 0} (blank : A) → List A → List A
+padded blank xs = xs ++ replicate (32 - length xs) blank
 
 -- the order of every page is at most 4,194,303
 unfoldable pub OrdersFit : List State → Type 0

@@ -8,14 +8,13 @@ use mathlib.Core.Option.{none, some}
 use native.Mathlib.Omega.{arith}
 use lib.ListN.{length, getD, set, take, length-append, length-map}
 use lib.Seq.{take-suc, take-length}
-use lib.Dec.{eqb}
 use borrow.Author.Tests.{eq-eqb}
 use Rattle.rules.specs.Flash.{Half, Step, program, erase, after, run}
 use Rattle.rules.specs.Word.{Word, word, opening-word, done-word, record-word, word-steps}
 use Rattle.rules.specs.Page.{Form, word-count, size, State, page, opening-place, done-place, slot-place}
 use Rattle.rules.specs.Store.{Setting, setting, Rising, last-of}
-use Rattle.rules.specs.Steps.{renew, renewed-wear, add-steps, renewals, other, but, copy-steps, fill-steps, move-steps}
-use Rattle.rules.specs.Call.{Roomy, cut}
+use Rattle.rules.specs.Steps.{renew, renewed-wear, add-steps, renewals, other, but, move-records, copy-steps, fill-steps, move-steps}
+use Rattle.rules.specs.Call.{Roomy, cut, first-pages}
 use Rattle.rules.proofs.Shape.{Within, target, page-after, store-after}
 use Rattle.rules.proofs.Lengths.{move-long}
 use Rattle.rules.proofs.Cut.{cut-after, cut-length, length-after}
@@ -24,9 +23,9 @@ use Rattle.settings.specs.Held.{addresses-of, values-of}
 use Rattle.settings.proofs.Tables.{setting-at}
 use Rattle.steps.specs.Picked.{picked-steps}
 use Rattle.steps.specs.Copied.{rows, copied}
-use Rattle.writing.specs.Picks.{picked, except}
-use Rattle.writing.specs.Plans.{Part, Tabled, pages-of}
-use Rattle.writing.proofs.Picks.{other-pick}
+use Rattle.writing.specs.Picks.{picked}
+use Rattle.writing.specs.Plans.{Part, Tabled}
+use Rattle.writing.proofs.Picks.{picked-at}
 use Rattle.writing.proofs.Parts.{part-then}
 use Rattle.writing.proofs.Recovering.{renewals-agree}
 
@@ -88,7 +87,7 @@ renewals-set edition picks k (suc p) x (y ∷ F) h =
 
 module _ (fm : Form) (n p : ℕ) (inside : p < n) where
   abbrev others : List ℕ → List Step
-  others i = renewals (fm .edition) (other p) 0 (pages-of fm n i)
+  others i = renewals (fm .edition) (λ j s. other p j) 0 (first-pages fm n i)
 
   program-kept : (q w : ℕ) (g : Half) (low high : ℕ) (i : List ℕ) → q ≡ p → w < word-count fm → length i ≡ n * size fm
       → others (after (size fm) (program q w g low high) i) ≡ others i
@@ -96,9 +95,9 @@ module _ (fm : Form) (n p : ℕ) (inside : p < n) where
   program-kept q w g low high i e v l =
       let s = program q w g low high in
       let z : 0 + q ≡ p = omega (arith, e) in
-      ap (λ (F : List (List Word)). renewals (fm .edition) (other p) 0 (map (page (fm .edition)) F))
+      ap (λ (F : List (List Word)). renewals (fm .edition) (λ j s. other p j) 0 (map (page (fm .edition)) F))
       (cut-after (word-count fm) n s i l (subst (λ (m : ℕ). m < n) (sym e) inside, v))
-      ∙ renewals-set (fm .edition) (other p) 0 q (page-after (word-count fm) s (getD (cut (size fm) n i) q [])) (cut (size fm) n i)
+      ∙ renewals-set (fm .edition) (λ j s. other p j) 0 q (page-after (word-count fm) s (getD (cut (size fm) n i) q [])) (cut (size fm) n i)
       (λ t. ap not (eq-eqb (0 + q) p z))
 
   others-kept : (ss : List Step) (i : List ℕ) → OnPage (word-count fm) p ss → length i ≡ n * size fm → others (run (size fm) ss i) ≡ others i
@@ -111,25 +110,25 @@ module _ (fm : Form) (n p : ℕ) (inside : p < n) where
 
   -- ---- the renewals of the pages but one
 
-  picked-others : (i : List ℕ) → picked-steps fm n (picked (except p) n) i ≡ others i
+  picked-others : (i : List ℕ) → picked-steps fm n (picked (other p) n) i ≡ others i
   unfolding picked-steps other
   picked-others i =
-      renewals-agree (fm .edition) (λ k s. getD (picked (except p) n) k false) (other p) 0 (pages-of fm n i)
+      renewals-agree (fm .edition) (λ k s. getD (picked (other p) n) k false) (λ j s. other p j) 0 (first-pages fm n i)
       (λ j g.
       let z : 0 + j ≡ j = omega arith in
       let l : j < n = omega (arith, length-map (cut (size fm) n i) (page (fm .edition)), cut-length (size fm) n i) in
-      subst (λ (x : ℕ). getD (picked (except p) n) x false ≡ not (eqb x p)) (sym z) (other-pick p n j l))
+      subst (λ (x : ℕ). getD (picked (other p) n) x false ≡ other p x) (sym z) (picked-at (other p) n j l))
 
 -- ---- what a move leaves: the page is filled, and then the others are renewed
 
 pub moved : (fm : Form) (p o n : ℕ) {allowance left rest : ℕ} (cs : List Setting) {i j k : List ℕ} (picks : List Bool) → p < n
     → length i ≡ n * size fm → length cs ≤ fm .slot-count
-    → Part fm allowance (fill-steps p o cs) i j left → picks ≡ picked (except p) n → Part fm left (picked-steps fm n picks j) j k rest
-    → Part fm allowance (move-steps (fm .edition) p o cs (pages-of fm n i)) i k rest
+    → Part fm allowance (fill-steps p o cs) i j left → picks ≡ picked (other p) n → Part fm left (picked-steps fm n picks j) j k rest
+    → Part fm allowance (move-steps (fm .edition) p o cs (first-pages fm n i)) i k rest
 unfolding move-steps
 moved fm p o n {allowance} {left} {rest} cs {i} {j} {k} picks inside sized few filled is renewed =
     let ss = take allowance (fill-steps p o cs) in
-    let same : picked-steps fm n picks j ≡ renewals (fm .edition) (other p) 0 (pages-of fm n i) =
+    let same : picked-steps fm n picks j ≡ renewals (fm .edition) (λ j s. other p j) 0 (first-pages fm n i) =
     ap (λ (xs : List Bool). picked-steps fm n xs j) is ∙ picked-others fm n p inside j ∙ ap (others fm n p inside) (filled .image)
     ∙ others-kept fm n p inside ss i (on-take (word-count fm) p allowance (fill-steps p o cs) (on-fill (word-count fm) p o cs (omega arith))) sized in
     part-then filled (subst (λ (xs : List Step). Part fm left xs j k rest) same renewed)
@@ -157,9 +156,9 @@ module _ {xs ys : List ℕ} {held : ℕ} (h : Tabled xs ys held) where
       rw (h .holds .few-addresses (h .few), h .holds .few-values (h .few), h .holds .few-held (h .few))
       (rows-take t (length t) (omega arith) ∙ take-length t)
 
-  pub copied-table : (a v : ℕ) → copied xs ys held a v ≡ but a (h .table) ++ (setting a v ∷ [])
+  pub copied-table : (a v : ℕ) → copied xs ys held a v ≡ move-records a v (h .table)
   unfolding copied
-  copied-table a v = ap (λ (t : List Setting). but a t ++ (setting a v ∷ [])) rows-table
+  copied-table a v = ap (move-records a v) rows-table
 
   copied-long : (a v : ℕ) → length (copied xs ys held a v) ≡ length (but a (h .table)) + 1
   copied-long a v = ap length (copied-table a v) ∙ length-append (but a (h .table)) (setting a v ∷ [])
@@ -180,7 +179,7 @@ module _ {xs ys : List ℕ} {held : ℕ} (h : Tabled xs ys held) where
 
     -- all the steps of a move, by the copies counted
     pub move-total : (fm : Form) (p o n copies v : ℕ) (i : List ℕ) → p < n → copies ≡ length (but a (rows xs ys held)) + 1
-        → length (move-steps (fm .edition) p o (copied xs ys held a v) (pages-of fm n i)) ≡ 2 * copies + 3 * n + 1
+        → length (move-steps (fm .edition) p o (copied xs ys held a v) (first-pages fm n i)) ≡ 2 * copies + 3 * n + 1
     move-total fm p o n copies v i l e =
-        let long : length (pages-of fm n i) ≡ n = length-map (cut (size fm) n i) (page (fm .edition)) ∙ cut-length (size fm) n i in
-        omega (arith, move-long (fm .edition) p o (copied xs ys held a v) (pages-of fm n i) (omega arith), copied-long a v, kept-is)
+        let long : length (first-pages fm n i) ≡ n = length-map (cut (size fm) n i) (page (fm .edition)) ∙ cut-length (size fm) n i in
+        omega (arith, move-long (fm .edition) p o (copied xs ys held a v) (first-pages fm n i) (omega arith), copied-long a v, kept-is)

@@ -10,10 +10,10 @@ use lib.Dec.{eqb, leb}
 use borrow.Author.Tests.{eqb-true, eqb-false, leb-false}
 use Rattle.rules.specs.Flash.{run, AllAllowed}
 use Rattle.rules.specs.Page.{Form, size}
-use Rattle.rules.specs.Store.{Setting, states, is-cleared, count, settings, held, value, free-slot}
+use Rattle.rules.specs.Store.{Setting, states, is-cleared, count, settings, held, value}
 use Rattle.rules.specs.Steps.{Way as Write, stay, append-to, open-at, move-to, way, way-steps, new-page, has-free-slot, is-value}
-use Rattle.rules.specs.Steps.{append-steps, open-steps, fill-steps, move-steps, copies, write-steps}
-use Rattle.rules.specs.Call.{Roomy, page-count, pages, store-number, write-number, accepted, wrong-address, write}
+use Rattle.rules.specs.Steps.{append-steps, open-steps, fill-steps, move-steps, move-records, write-steps}
+use Rattle.rules.specs.Call.{Roomy, first-pages, page-count, pages, store-number, write-number, accepted, wrong-address, write}
 use Rattle.rules.proofs.Truth.{by-cases}
 use Rattle.rules.proofs.Rows.{write-fails}
 use Rattle.rules.proofs.Plans.{allowed-take}
@@ -29,7 +29,7 @@ use Rattle.choosing.specs.declared.Way.the-variants.{Refuse, Stay, Append, Open
 use Rattle.choosing.specs.Way.{as-way, way-for, Fitting, Chosen}
 use Rattle.writing.specs.declared.Stepped.{Stepped}
 use Rattle.writing.specs.Answers.{as-stepped}
-use Rattle.writing.specs.Plans.{Does, Tabled, pages-of}
+use Rattle.writing.specs.Plans.{Does, Tabled}
 use Rattle.writing.proofs.Recovering.{look-few}
 use Rattle.writing.proofs.Moving.{copied-table}
 use Rattle.writing.proofs.Parts.{part-first}
@@ -174,8 +174,8 @@ module _ (fm : Form) (a v n : ℕ) (i : List ℕ) where
       abbrev copying : List Setting
       copying = copied xs ys (s .held) a v
 
-      copies-are : copying ≡ copies a v (pages fm i)
-      unfolding copies tabled
+      copies-are : copying ≡ move-records a v (settings (pages fm i))
+      unfolding tabled
       copies-are = copied-table tabled a v
 
       count-is : s .look .count ≡ page-count fm i
@@ -198,11 +198,11 @@ module _ (fm : Form) (a v n : ℕ) (i : List ℕ) where
       pub move-ready : AllAllowed (size fm) (take n (fill-steps p o copying)) i
       unfolding way-steps move-steps
       move-ready =
-          let cs = copies a v (pages fm i) in
+          let cs = move-records a v (settings (pages fm i)) in
           let whole = allowed-take (size fm) n (move-steps (fm .edition) p o cs (pages fm i)) i (moving .may) in
           rw copies-are (part-first (size fm) n (fill-steps p o cs) _ i whole)
 
-      pub moved-all : {r : Stepped} {j : List ℕ} → Does fm n (move-steps (fm .edition) p o copying (pages-of fm (s .look .count) i)) i r j
+      pub moved-all : {r : Stepped} {j : List ℕ} → Does fm n (move-steps (fm .edition) p o copying (first-pages fm (s .look .count) i)) i r j
           → as-stepped r j ≡ write fm a v n i
       unfolding way-steps pages
       moved-all {r} {j} d = written (move-to p o) moving (rw (copies-are, count-is) at d)

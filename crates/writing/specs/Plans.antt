@@ -1,13 +1,12 @@
 -- What it is to do steps under an allowance: a part of them, and all that a call has.
 use Prim.Native.Nat.{ℕ, _-_, _≤_, min}
 use mathlib.Core.Path.{_≡_}
-use mathlib.Core.List.{List, map}
+use mathlib.Core.List.{List}
 use lib.ListN.{length, take}
 use lib.Dec.{leb}
 use Rattle.rules.specs.Flash.{Step, run}
-use Rattle.rules.specs.Page.{Form, size, Page, page}
+use Rattle.rules.specs.Page.{Form, size}
 use Rattle.rules.specs.Store.{Setting, Rising}
-use Rattle.rules.specs.Call.{cut}
 use Rattle.settings.specs.Held.{Holds}
 use Rattle.writing.specs.declared.Stepped.{Stepped}
 
@@ -22,10 +21,6 @@ pub record Does (fm : Form) (allowance : ℕ) (ss : List Step) (i : List ℕ) (r
   pub steps : r .steps ≡ min allowance (length ss)
   pub finished : r .finished ≡ leb (length ss) allowance
   pub image : j ≡ run (size fm) (take allowance ss) i
-
--- the first n pages of an image
-abbrev pub pages-of : (form : Form) (n : ℕ) → List ℕ → List Page
-pages-of fm n i = map (page (fm .edition)) (cut (size fm) n i)
 
 -- arrays that hold a table of settings, addresses rising
 pub record Tabled (xs ys : List ℕ) (held : ℕ) : Type 0 where

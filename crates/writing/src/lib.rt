@@ -2,12 +2,12 @@
 // through the two functions of crate flash only, one call for each step, in the order of the rules.
 use choosing::Way;
 use pages::Form;
+use pages::PAGES_MAX;
 use settings::HELD_MAX;
 use settings::Held;
 use settings::NO_ADDRESS;
 use settings::NO_VALUE;
 use survey::OK;
-use survey::PAGES_MAX;
 use survey::SIZE;
 ghost use mathlib.Core.Path.{_≡_};
 ghost use mathlib.Core.Bool.{false};
@@ -15,14 +15,14 @@ ghost use Prim.Native.Nat.{_+_, _*_, _≤_, _<_, min};
 ghost use lib.Dec.{leb};
 ghost use lib.ListN.{length, take};
 ghost use Rattle.rules.specs.Flash.{AllAllowed};
-ghost use Rattle.rules.specs.Steps.{append-steps, open-steps, but, fill-steps, move-steps};
-ghost use Rattle.rules.specs.Call.{format, recover, write};
+ghost use Rattle.rules.specs.Steps.{append-steps, open-steps, but, fill-steps, other, move-steps};
+ghost use Rattle.rules.specs.Call.{first-pages, format, recover, write};
 ghost use Rattle.rules.specs.Page.{size};
 ghost use Rattle.pages.specs.Read.{as-form, Lawful};
 ghost use Rattle.steps.specs.Copied.{rows, copied};
 ghost use Rattle.writing.specs.Answers.{as-stepped};
-ghost use Rattle.writing.specs.Picks.{picked, neither, neither-at, except};
-ghost use Rattle.writing.specs.Plans.{Part, Does, Tabled, pages-of};
+ghost use Rattle.writing.specs.Picks.{picked, neither, neither-at};
+ghost use Rattle.writing.specs.Plans.{Part, Does, Tabled};
 
 #[repr(C)]
 pub struct Stepped {
@@ -105,7 +105,7 @@ fn unclean<'a>(
 // All of n pages but one.
 fn others(n: usize, kept: usize) -> [bool; PAGES_MAX]
     requires { ⌜ n ≤ 32 ⌝ }
-    ensures { λ r. ⌜ r ≡ picked (except kept) n ⌝ }
+    ensures { λ r. ⌜ r ≡ picked (other kept) n ⌝ }
 {
     let mut picks = [false; PAGES_MAX];
     let mut i = 0;
@@ -265,7 +265,7 @@ fn move_to<'a>(
         (now image) ⌝ }
     ensures { λ r. ⌜ Does (as-form form) allowance
         (move-steps (form .edition) page order (copied (now (addresses .entry)) (now (values .entry)) held address value)
-        (pages-of (as-form form) n (now (image .entry))))
+        (first-pages (as-form form) n (now (image .entry))))
         (now (image .entry)) r (now (image .exit)) ⌝ }
 {
     let copies = copy_count(addresses, values, held, address);
