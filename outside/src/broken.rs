@@ -17,6 +17,8 @@ pub enum Broken {
     ReceivingIsCurrent,
     /// The check is the exclusive-or of the first three bytes.
     ExclusiveOr,
+    /// The check counts the 0 bits of the low half of each byte twice, and those of the high half not at all.
+    LowHalfTwice,
     /// The base order is not looked at: old pages count until they are erased.
     OldPagesCount,
     /// A write within the page programs new, old and new again.
@@ -27,23 +29,20 @@ pub enum Broken {
 
 impl Plan for Broken {
     fn format_steps(&self, image: &[u8]) -> Result<Vec<Step>, u8> {
-        let steps = format_steps(image)?;
-        Ok(if *self == Broken::ExclusiveOr { with_exclusive_or(steps) } else { steps })
+        Ok(self.rechecked(format_steps(image)?))
     }
 
     fn recovery_steps(&self, image: &[u8]) -> Result<Vec<Step>, u8> {
-        let steps = recovery_steps(&self.seen(image))?;
-        Ok(if *self == Broken::ExclusiveOr { with_exclusive_or(steps) } else { steps })
+        Ok(self.rechecked(recovery_steps(&self.seen(image))?))
     }
 
     fn write_steps(&self, image: &[u8], address: u16, value: u8) -> Result<Vec<Step>, u8> {
         let seen = self.seen(image);
-        let steps = write_steps(&seen, address, value)?;
+        let steps = self.rechecked(write_steps(&seen, address, value)?);
         let old = held(&seen).get(&address).copied();
         Ok(match (self, old) {
             (Broken::EraseFirst, _) => erase_first(steps),
             (Broken::OldAfterNew, Some(old)) => old_after_new(&seen, steps, address, old),
-            (Broken::ExclusiveOr, _) => with_exclusive_or(steps),
             (Broken::Wavering, Some(old)) => wavering(steps, address, old, value),
             (Broken::FirstBlankSlot, _) => first_blank_slot(&seen, steps, address, value),
             _ => steps,
@@ -55,11 +54,32 @@ impl Plan for Broken {
         let whole = test_size(image).is_ok();
         match self {
             Broken::ReceivingIsCurrent if whole => add_done_words(&mut seen),
-            Broken::ExclusiveOr if whole => translate_exclusive_or(&mut seen),
             Broken::OldPagesCount if whole => make_all_plain(&mut seen),
             _ => {}
         }
+        if let (Some(check), true) = (self.wrong_check(), whole) {
+            translate(&mut seen, check);
+        }
         seen
+    }
+}
+
+type Check = fn([u8; 3]) -> u8;
+
+impl Broken {
+    fn wrong_check(self) -> Option<Check> {
+        match self {
+            Broken::ExclusiveOr => Some(|bytes| bytes[0] ^ bytes[1] ^ bytes[2]),
+            Broken::LowHalfTwice => Some(|bytes| bytes.iter().map(|byte| 2 * (byte | 0xF0).count_zeros() as u8).sum()),
+            _ => None,
+        }
+    }
+
+    fn rechecked(self, steps: Vec<Step>) -> Vec<Step> {
+        match self.wrong_check() {
+            Some(check) => with_check(steps, check),
+            None => steps,
+        }
     }
 }
 
@@ -123,18 +143,18 @@ fn make_all_plain(image: &mut [u8]) {
     }
 }
 
-/// Words with a passing exclusive-or become sound, the others spoiled (no check is 200), so that the rules can read them.
-fn translate_exclusive_or(image: &mut [u8]) {
+/// Words that pass this check become sound, the others spoiled (no check is 200), so that the rules can read them.
+fn translate(image: &mut [u8], check: Check) {
     for word in image.chunks_exact_mut(4) {
         if *word != BLANK {
-            let passes = word[3] == word[0] ^ word[1] ^ word[2];
-            word[3] = if passes { zero_bits([word[0], word[1], word[2]]) } else { 200 };
+            let bytes = [word[0], word[1], word[2]];
+            word[3] = if word[3] == check(bytes) { zero_bits(bytes) } else { 200 };
         }
     }
 }
 
 /// The second half of each word follows its first half in the list.
-fn with_exclusive_or(mut steps: Vec<Step>) -> Vec<Step> {
+fn with_check(mut steps: Vec<Step>, check: Check) -> Vec<Step> {
     let mut first_half = [0, 0];
     for step in &mut steps {
         if let Step::Program { offset, value } = step {
@@ -142,7 +162,7 @@ fn with_exclusive_or(mut steps: Vec<Step>) -> Vec<Step> {
             if *offset % 4 == 0 {
                 first_half = [low, high];
             } else {
-                *value = u16::from_le_bytes([low, first_half[0] ^ first_half[1] ^ low]);
+                *value = u16::from_le_bytes([low, check([first_half[0], first_half[1], low])]);
             }
         }
     }

@@ -1,4 +1,5 @@
-//! A second settings store, written from the rules in words, which docs/FORMAT.md restates, and not from the definitions: clear
+//! A second settings store, written from the rules in words, which docs/FORMAT.md restates, and not from the definitions:
+//! clear and literal rather than fast. It counts the 0 bits of a byte; the library looks them up, a half at a time.
 //!
 //! The rules are in `word` (four bytes), `page` (1,024 bytes) and `rules` (a whole image). The calls are there twice:
 //! `second` does them on the image as it goes, `steps` lists the steps beforehand. The rest serves the tests: `images`

@@ -311,6 +311,7 @@ fn broken_stores_are_caught() {
         Broken::OldAfterNew,
         Broken::ReceivingIsCurrent,
         Broken::ExclusiveOr,
+        Broken::LowHalfTwice,
         Broken::OldPagesCount,
         Broken::Wavering,
         Broken::FirstBlankSlot,

@@ -1,6 +1,7 @@
 //! Single rules of document 01 beyond its examples, on every store at hand.
 //!
-//! A broken store that these catch: one that takes a receiving page for current, see the last test.
+//! Broken stores that these catch: one that takes a receiving page for current, and one whose check counts the low half of
+//! each byte twice, see the last test.
 
 use std::panic::{catch_unwind, AssertUnwindSafe};
 
@@ -40,6 +41,38 @@ fn moved(order: u32, slots: &[Word]) -> Vec<u8> {
 fn reads(store: &dyn Store, pages: &[Vec<u8>], address: u16) -> (u8, u8) {
     let answer = store.read(&pages.concat(), address);
     (answer.number, answer.value)
+}
+
+/// The 0 bits of each half of a byte, as README.md prints them for the bench.
+fn printed_counts() -> Vec<u8> {
+    let rows = include_str!("../../README.md").lines().filter_map(|line| line.strip_prefix("| 0 bits |"));
+    rows.flat_map(|row| row.split('|').filter_map(|cell| cell.trim().parse().ok())).collect()
+}
+
+/// A check by hand is the sum of the six counts. Each byte stands once in each of the three places of a record.
+fn checks_by_hand(store: &dyn Store) {
+    let counts = printed_counts();
+    assert_eq!(counts.len(), 16);
+    for (place, byte) in (0..3).flat_map(|place| (0..=255).map(move |byte| (place, byte))) {
+        let mut bytes = [0x05, 0x00, 0x41];
+        bytes[place] = byte;
+        let halves = bytes.iter().flat_map(|byte| [byte / 16, byte % 16]);
+        let check: u8 = halves.map(|half| counts[usize::from(half)]).sum();
+        let (address, value) = (u16::from_le_bytes([bytes[0], bytes[1]]), bytes[2]);
+        let with = |check| [plain(0, &[[bytes[0], bytes[1], bytes[2], check]]), cleared(1)];
+        assert_eq!(reads(store, &with(check), address), (OK, value), "{bytes:?} with check {check}");
+        for wrong in [check.wrapping_sub(1), check + 1] {
+            assert_eq!(reads(store, &with(wrong), address), (NOT_HELD, 0), "{bytes:?} with check {wrong}");
+        }
+        let mut image = [plain(0, &[]), cleared(1)].concat();
+        assert_eq!(store.write(&mut image, address, value, 2).steps, 2);
+        assert!(image == with(check).concat(), "{bytes:?} written");
+    }
+}
+
+#[test]
+fn a_check_by_hand_is_that_of_every_store() {
+    on_every_store(checks_by_hand);
 }
 
 #[test]
@@ -142,4 +175,5 @@ fn broken_stores_are_caught() {
     assert_eq!(reads(&Second, &pages, 5), (OK, 1));
     let broken = Stepwise(Broken::ReceivingIsCurrent);
     assert!(catch_unwind(AssertUnwindSafe(|| assert_eq!(reads(&broken, &pages, 5), (OK, 1)))).is_err());
+    assert!(catch_unwind(AssertUnwindSafe(|| checks_by_hand(&Stepwise(Broken::LowHalfTwice)))).is_err());
 }

@@ -1,3 +1,3 @@
 -- Laws of the code's own, for its proofs and for the crates below.
-pub mod Ones
 pub mod Parts
+mod Table

@@ -1,24 +1,29 @@
 -- `words::zeros` meets its contract. Assumes nothing.
-use Prim.Native.Nat.{_+_}
-use mathlib.Core.Path.{_≡_}
 use native.Mathlib.Omega.{arith}
-use lib.Count.{ones}
-use Rattle.words.proofs.Ones.{zeros-ones}
-use Rattle.rules.specs.Word.{zeros}
+use borrow.Author.Needs.{needs}
+use Rattle.words.proofs.Table.{table, by-table, two-looks}
 use Rattle.words.proofs.zeros.Statement.{statement}
 use Rattle.words.proofs.zeros.Tie as tie
 
-count : (c : tie.Start) → zeros 8 (c .args .b) + ones (c .args .b) ≡ 8
-count c = zeros-ones 8 (c .args .b) (omega arith)
-
 cast-result : tie.Need-cast-result
-cast-result c = omega (arith, count c)
+cast-result c = search needs
 
-sub-result : tie.Need-sub-result
-sub-result c = omega (arith, count c)
+array-read-result : tie.Need-array-read-result
+array-read-result c = search needs
+
+cast-result-2 : tie.Need-cast-result-2
+cast-result-2 c = search needs
+
+array-read-result-2 : tie.Need-array-read-result-2
+array-read-result-2 c = search needs
 
 returns : tie.Need-returns
-returns c = omega (arith, count c)
+unfolding by-table table
+returns c = two-looks (c .args .b) (omega arith)
+
+add-result : tie.Need-add-result
+unfolding by-table table
+add-result c = omega (arith, two-looks (c .args .b) (omega arith) .1)
 
 pub zeros-spec : {M : Type 1} → statement M
-zeros-spec = tie.close (tie.spec cast-result sub-result returns)
+zeros-spec = tie.close (tie.spec cast-result array-read-result cast-result-2 array-read-result-2 add-result returns)
