@@ -10,7 +10,8 @@ use borrow.Author.Tests.{eqb-true, eqb-false}
 use Rattle.rules.specs.Flash.{Step, run}
 use Rattle.rules.specs.Page.{size}
 use Rattle.rules.specs.Call.{this-form, page-count, wrong-size, store-number, write-number, read-number, blank-read-number, OK}
-use Rattle.rules.specs.Call.{SIZE, Stepped, Reading, Pairing, Formatted, stepped, recover, write, read, blank-read}
+use Rattle.rules.specs.Store.{value}
+use Rattle.rules.specs.Call.{SIZE, Stepped, Reading, Pairing, Formatted, accepted, stepped, recover, write, or-value, pages, read, blank-value, blank-read}
 use Rattle.rules.proofs.Truth.{by-cases}
 use Rattle.rules.proofs.Answers.{not-accepted, format-refused, format-done, stepped-refused, stepped-done, lookup-refused, lookup-done}
 use Rattle.promise.specs.Calls.{Question, value-at, blank-value-at, pairing-code, Answer, answer, Obeys}
@@ -23,7 +24,7 @@ use Rattle.reading.specs.declared.Pairing.{Pairing as Pair}
 use Rattle.reading.specs.Answers.{as-reading, as-pairing}
 use Rattle.writing.specs.declared.Stepped.{Stepped as Done}
 use Rattle.writing.specs.Answers.{as-stepped}
-use Rattle.istrovell.specs.Demands.{Formats, Reads, BlankReads, LooksUp, Unchanged, replies, exported, every-call-answers-by-number}
+use Rattle.istrovell.specs.Demands.{Formats, LooksUp, Unchanged, replies, exported, every-call-answers-by-number}
 use Rattle.istrovell.specs.Demands.{only-one-outcome, every-step-follows-the-rules, a-store-keeps-its-word}
 
 -- ---- recovery and write: an answer with steps
@@ -42,6 +43,13 @@ module _ (number n : ℕ) (ss : List Step) (i : List ℕ) (r : Done) (j : List �
       let e = h ∙ stepped-done this-form number n ss i (sym its-number ∙ ok) in
       (ap (λ (s : Stepped). s .image) e, ap (λ (s : Stepped). s .steps) e, ap (λ (s : Stepped). s .finished) e)
 
+-- ---- read and blank read: an answer with a value
+
+read-so : (n v : ℕ) (r : Read) → as-reading r ≡ record { number = n; value = cond (accepted n) v 0 } → (r .number ≡ n) × ((r .number ≡ OK → ⊥) → r .value ≡ 0)
+read-so n v r h =
+    let e = ap (λ (q : Reading). q .number) h in
+    (e, λ ne. ap (λ (q : Reading). q .value) h ∙ rw (not-accepted n (λ z. ne (e ∙ z))))
+
 -- ---- demand 1
 
 module _ (i : List ℕ) where
@@ -51,18 +59,6 @@ module _ (i : List ℕ) where
       (λ t. let e = format-refused this-form i t in (rw t (h .0 ∙ ap (λ (f : Formatted). f .number) e), λ ne. h .1 ∙ ap (λ (f : Formatted). f .image) e))
       (λ t. let e = format-done this-form i t in
       (rw t (h .0 ∙ ap (λ (f : Formatted). f .number) e), λ ne. absurd (ne (h .0 ∙ ap (λ (f : Formatted). f .number) e))))
-
-  read-value : (a : ℕ) (r : Read) → Reads a i r → (r .number ≡ read-number this-form a i) × ((r .number ≡ OK → ⊥) → r .value ≡ 0)
-  unfolding read
-  read-value a r h =
-      let e = ap (λ (q : Reading). q .number) h in
-      (e, λ ne. ap (λ (q : Reading). q .value) h ∙ rw (not-accepted (read-number this-form a i) (λ z. ne (e ∙ z))))
-
-  blank-value : (a : ℕ) (r : Read) → BlankReads a i r → (r .number ≡ blank-read-number this-form a i) × ((r .number ≡ OK → ⊥) → r .value ≡ 0)
-  unfolding blank-read
-  blank-value a r h =
-      let e = ap (λ (q : Reading). q .number) h in
-      (e, λ ne. ap (λ (q : Reading). q .value) h ∙ rw (not-accepted (blank-read-number this-form a i) (λ z. ne (e ∙ z))))
 
   look-number : (r : Pair) → LooksUp i r → (r .number ≡ store-number this-form i) × ((r .number ≡ OK → ⊥)
       → as-pairing r ≡ record { number = r .number; paired = false; digits = 0 ∷ 0 ∷ 0 ∷ 0 ∷ [] })
@@ -74,7 +70,7 @@ module _ (i : List ℕ) where
       (e, λ ne. h ∙ lookup-refused this-form i (λ z. ne (e ∙ z)) ∙ rw e)
 
 pub answers-by-number : every-call-answers-by-number
-unfolding recover write
+unfolding recover write read blank-read
 answers-by-number i =
     record {
       formats = format-number i;
@@ -88,8 +84,8 @@ answers-by-number i =
         its-refusal
             (write-number this-form a v i) n (write-of this-form a v i) i r j h,
       );
-      reads = read-value i;
-      blank-reads = blank-value i;
+      reads = λ a r h. read-so (read-number this-form a i) (or-value (value a (pages this-form i)) 0) r h;
+      blank-reads = λ a r h. read-so (blank-read-number this-form a i) (blank-value this-form a i) r h;
       looks = look-number i;
     }
 

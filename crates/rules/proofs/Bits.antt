@@ -1,7 +1,8 @@
 -- Bits that only rise, and the zero count: each law over the width, by one induction. Assumes nothing.
-use Prim.Native.Nat.{ℕ, zero, suc, _-_, _*_, _/_, _%_, _^_, _≤_, _<_}
+use Prim.Native.Nat.{ℕ, zero, suc, _+_, _-_, _*_, _/_, _%_, _^_, _≤_, _<_}
 use mathlib.Core.Path.{_≡_, refl}
-use native.Mathlib.Nat.{pow-suc}
+use native.Mathlib.Nat.{pow-suc, zero-add, suc-add, add-assoc, mul-comm, div-one, div-div-eq-div-mul}
+use lib.Arith.{mod-mul}
 use lib.Pow.{pow-pos}
 use native.Mathlib.Omega.{arith}
 use Rattle.rules.specs.Flash.{Rises}
@@ -30,6 +31,17 @@ pub zeros-bound : (k a : ℕ) → zeros k a ≤ k
 unfolding zeros
 zeros-bound zero a = omega arith
 zeros-bound (suc k) a = let h = zeros-bound k (a / 2) in omega arith
+
+-- the zeros of m + n bits are those of the lowest m and those of the n above them
+pub zeros-parted : (m n b : ℕ) → zeros (m + n) b ≡ zeros m (b % 2 ^ m) + zeros n (b / 2 ^ m)
+unfolding zeros
+zeros-parted zero n b = simp (zero-add, div-one)
+zeros-parted (suc m) n b =
+    let low : b % 2 ^ suc m ≡ b / 2 % 2 ^ m * 2 + b % 2 = rw (pow-suc 2 m) (mod-mul b (pow-pos m) (omega arith)) in
+    let high : b / 2 ^ suc m ≡ b / 2 / 2 ^ m = rw (pow-suc 2 m, mul-comm (2 ^ m) 2, div-div-eq-div-mul b 2 (2 ^ m)) in
+    let bit : b % 2 ^ suc m % 2 ≡ b % 2 = omega arith in
+    let rest : b % 2 ^ suc m / 2 ≡ b / 2 % 2 ^ m = omega arith in
+    rw (suc-add m n, bit, rest, high, zeros-parted m n (b / 2), add-assoc)
 
 -- where bits rise, zeros go
 pub zeros-fall : (k a b : ℕ) → Rises k a b → zeros k b ≤ zeros k a

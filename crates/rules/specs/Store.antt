@@ -106,6 +106,12 @@ oldest-first (p ∷ ps) = insert p (oldest-first ps)
 pub data Setting : Type 0 where
   setting : (address value : ℕ) → Setting
 
+abbrev pub address-of : Setting → ℕ
+address-of (setting a v) = a
+
+abbrev pub value-of : Setting → ℕ
+value-of (setting a v) = v
+
 -- S5. The records that count: of a page, in slot order.
 unfoldable pub add-record : Condition → Word → List Setting → List Setting
 add-record Sound w rs = setting (low16 w) (third w) ∷ rs

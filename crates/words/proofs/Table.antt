@@ -1,13 +1,11 @@
 -- The table of sixteen: the 0 bits of a half of a byte, and of a byte by its halves. Assumes nothing.
-use Prim.Native.Nat.{ℕ, zero, suc, _+_, _*_, _/_, _%_, _^_, _≤_, _<_}
+use Prim.Native.Nat.{ℕ, zero, suc, _+_, _/_, _%_, _≤_, _<_}
 use mathlib.Core.Path.{_≡_, ap, _∙_}
 use mathlib.Core.List.{List, [], _∷_}
-use native.Mathlib.Nat.{pow-suc, zero-add, suc-add, add-suc, add-zero, add-assoc, add-comm, mul-comm, div-one, div-div-eq-div-mul}
+use native.Mathlib.Nat.{zero-add, suc-add, add-suc, add-zero, add-comm}
 use native.Mathlib.Omega.{arith}
-use lib.Arith.{mod-mul}
-use lib.Pow.{pow-pos}
 use lib.ListN.{getD}
-use Rattle.rules.proofs.Bits.{zeros-bound}
+use Rattle.rules.proofs.Bits.{zeros-bound, zeros-parted}
 use Rattle.rules.specs.Word.{zeros}
 
 -- what `f` gives of n numbers, from i on
@@ -30,17 +28,6 @@ rule : (k : ℕ) → k < 16 → getD table k 0 ≡ zeros 4 k
 unfolding table listed zeros
 rule k h = listed-at (zeros 4) 0 16 k h ∙ ap (zeros 4) (zero-add k)
 
--- The zero count of m + n bits is that of the lowest m and that of the n above them.
-parted : (m n b : ℕ) → zeros (m + n) b ≡ zeros m (b % 2 ^ m) + zeros n (b / 2 ^ m)
-unfolding zeros
-parted zero n b = simp (zero-add, div-one)
-parted (suc m) n b =
-    let low : b % 2 ^ suc m ≡ b / 2 % 2 ^ m * 2 + b % 2 = rw (pow-suc 2 m) (mod-mul b (pow-pos m) (omega arith)) in
-    let high : b / 2 ^ suc m ≡ b / 2 / 2 ^ m = rw (pow-suc 2 m, mul-comm (2 ^ m) 2, div-div-eq-div-mul b 2 (2 ^ m)) in
-    let bit : b % 2 ^ suc m % 2 ≡ b % 2 = omega arith in
-    let rest : b % 2 ^ suc m / 2 ≡ b / 2 % 2 ^ m = omega arith in
-    rw (suc-add m n, bit, rest, high, parted m n (b / 2), add-assoc)
-
 -- the 0 bits of a byte by two looks
 unfoldable pub by-table : ℕ → ℕ
 by-table b = getD table (b / 16) 0 + getD table (b % 16) 0
@@ -49,5 +36,5 @@ by-table b = getD table (b / 16) 0 + getD table (b % 16) 0
 pub two-looks : (b : ℕ) → b < 256 → (by-table b ≡ zeros 8 b) × (by-table b ≤ 8)
 unfolding by-table
 two-looks b h =
-    let sum : by-table b ≡ zeros 8 b = rw (rule (b / 16) (omega arith), rule (b % 16) (omega arith), parted 4 4 b, add-comm (zeros 4 (b / 16))) in
+    let sum : by-table b ≡ zeros 8 b = rw (rule (b / 16) (omega arith), rule (b % 16) (omega arith), zeros-parted 4 4 b, add-comm (zeros 4 (b / 16))) in
     (sum, omega (arith, sum, zeros-bound 8 b))

@@ -12,7 +12,8 @@ pub struct Word {
     pub d: u8,
 }
 
-// How many 0 bits a half of a byte has, from 0000 to 1111.
+// How many 0 bits a half of a byte has, from 0000 to 1111. Proved once, of the whole table (`rule` of Table.antt): each place
+// has the zero count of its index, of four bits.
 const ZEROS: [u8; 16] = [4, 3, 3, 2, 3, 2, 2, 1, 3, 2, 2, 1, 2, 1, 1, 0];
 
 // The number of 0 bits of a byte; the bound lets every caller's sum close by itself. The table is named once, since each
