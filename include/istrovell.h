@@ -110,7 +110,8 @@ struct istrovell_pairing {
  * Answers 0 or 1. */
 uint8_t istrovell_format(uint8_t *image, size_t length);
 
-/* Erases each page that is neither used nor cleared and programs its wear word, in 3 steps a page. No setting changes.
+/* Erases each page that is neither used nor cleared and programs its wear word, in 3 steps a page. No setting changes. The
+ * wear is one more than the page's own or, if that is lost, than the greatest of all pages then; 65,535 at most.
  * Answers 0 to 3; 0 with finished false if the allowance ended it. */
 struct istrovell_stepped istrovell_recover(uint8_t *image, size_t length, uint16_t allowance);
 

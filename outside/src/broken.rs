@@ -25,7 +25,26 @@ pub enum Broken {
     Wavering,
     /// A write takes the first blank slot, which may have slots behind it that are not blank.
     FirstBlankSlot,
+    /// A page without a wear word gets wear 1, as document 01 has it before wish 1.
+    LostWearIsOne,
+    /// A page without a wear word gets one more than the greatest of the image at the call.
+    GreatestAtTheCall,
+    /// A page without a wear word gets one more than the greatest of the used pages.
+    GreatestOfUsedPages,
+    /// Every page gets one more than the greatest.
+    GreatestForEveryPage,
+    /// After wear 65,535 comes 0.
+    WearWraps,
 }
+
+/// The stores of which only the wear is wrong.
+pub const WRONG_WEARS: [Broken; 5] = [
+    Broken::LostWearIsOne,
+    Broken::GreatestAtTheCall,
+    Broken::GreatestOfUsedPages,
+    Broken::GreatestForEveryPage,
+    Broken::WearWraps,
+];
 
 impl Plan for Broken {
     fn format_steps(&self, image: &[u8]) -> Result<Vec<Step>, u8> {
@@ -33,7 +52,8 @@ impl Plan for Broken {
     }
 
     fn recovery_steps(&self, image: &[u8]) -> Result<Vec<Step>, u8> {
-        Ok(self.rechecked(recovery_steps(&self.seen(image))?))
+        let seen = self.seen(image);
+        Ok(self.reworn(&seen, self.rechecked(recovery_steps(&seen)?)))
     }
 
     fn write_steps(&self, image: &[u8], address: u16, value: u8) -> Result<Vec<Step>, u8> {
@@ -45,7 +65,7 @@ impl Plan for Broken {
             (Broken::OldAfterNew, Some(old)) => old_after_new(&seen, steps, address, old),
             (Broken::Wavering, Some(old)) => wavering(steps, address, old, value),
             (Broken::FirstBlankSlot, _) => first_blank_slot(&seen, steps, address, value),
-            _ => steps,
+            _ => self.reworn(&seen, steps),
         })
     }
 
@@ -66,12 +86,38 @@ impl Plan for Broken {
 
 type Check = fn([u8; 3]) -> u8;
 
+/// The wear that a page gets, by the image at the call and the image just before its erase.
+type WearRule = fn(&[u8], &[u8], usize) -> u16;
+
 impl Broken {
     fn wrong_check(self) -> Option<Check> {
         match self {
             Broken::ExclusiveOr => Some(|bytes| bytes[0] ^ bytes[1] ^ bytes[2]),
             Broken::LowHalfTwice => Some(|bytes| bytes.iter().map(|byte| 2 * (byte | 0xF0).count_zeros() as u8).sum()),
             _ => None,
+        }
+    }
+
+    fn wrong_wear(self) -> Option<WearRule> {
+        match self {
+            Broken::LostWearIsOne => Some(|_, now, page| wear(page_at(now, page)).unwrap_or(0).saturating_add(1)),
+            Broken::GreatestAtTheCall => Some(|at_call, _, page| next_wear(at_call, page)),
+            Broken::GreatestOfUsedPages => Some(|_, now, page| {
+                let used = used_pages(now).into_iter().filter_map(|used| wear(page_at(now, used.page)));
+                wear(page_at(now, page)).or(used.max()).unwrap_or(0).saturating_add(1)
+            }),
+            Broken::GreatestForEveryPage => Some(|_, now, _| greatest_wear(now).saturating_add(1)),
+            Broken::WearWraps => {
+                Some(|_, now, page| wear(page_at(now, page)).unwrap_or_else(|| greatest_wear(now)).wrapping_add(1))
+            }
+            _ => None,
+        }
+    }
+
+    fn reworn(self, image: &[u8], steps: Vec<Step>) -> Vec<Step> {
+        match self.wrong_wear() {
+            Some(rule) => with_wears(image, steps, rule),
+            None => steps,
         }
     }
 
@@ -165,6 +211,19 @@ fn with_check(mut steps: Vec<Step>, check: Check) -> Vec<Step> {
                 *value = u16::from_le_bytes([low, check([first_half[0], first_half[1], low])]);
             }
         }
+    }
+    steps
+}
+
+/// The two steps of a wear word follow the erase in the list.
+fn with_wears(image: &[u8], mut steps: Vec<Step>, rule: WearRule) -> Vec<Step> {
+    let mut now = image.to_vec();
+    for at in 0..steps.len() {
+        if let Step::Erase { page } = steps[at] {
+            let word = wear_word(rule(image, &now, page));
+            steps[at + 1..at + 3].copy_from_slice(&program_word_steps(page * PAGE_BYTES + WEAR_OFFSET, word));
+        }
+        do_step(&mut now, steps[at]);
     }
     steps
 }

@@ -19,7 +19,8 @@ pub fn image(seed: u64) -> Vec<u8> {
     let rng = &mut rng;
     match rng.below(100) {
         0..=29 => worn(rng),
-        30..=66 => sensible(rng),
+        30..=61 => sensible(rng),
+        62..=66 => worn_unevenly(rng),
         67..=79 => wild(rng),
         80..=89 => flipped(rng),
         90..=94 => random_bytes(rng),
@@ -277,17 +278,29 @@ fn receiving_page(rng: &mut Rng) -> Vec<u8> {
     page
 }
 
-fn bad_page(rng: &mut Rng) -> Vec<u8> {
+/// A page without a sound wear word.
+fn unworn_page(rng: &mut Rng) -> Vec<u8> {
     let order = some_order(rng);
     let mut page = open_page(order, PLAIN, rng);
-    match rng.below(8) {
+    match rng.below(4) {
         0 => page.fill(255),
         1 => page.fill(0),
         2 => put(&mut page, WEAR_OFFSET, BLANK),
-        3 => put(&mut page, WEAR_OFFSET, sound_word([1, 0, rng.byte() & 2])),
-        4 => put(&mut page, OPENING_OFFSET, order_word(order, 0)),
-        5 => put(&mut page, OPENING_OFFSET, order_word(order, DONE)),
-        6 => put(&mut page, OPENING_OFFSET, BLANK),
+        _ => put(&mut page, WEAR_OFFSET, sound_word([1, 0, rng.byte() & 2])),
+    }
+    page
+}
+
+fn bad_page(rng: &mut Rng) -> Vec<u8> {
+    if rng.one_in(2) {
+        return unworn_page(rng);
+    }
+    let order = some_order(rng);
+    let mut page = open_page(order, PLAIN, rng);
+    match rng.below(4) {
+        0 => put(&mut page, OPENING_OFFSET, order_word(order, 0)),
+        1 => put(&mut page, OPENING_OFFSET, order_word(order, DONE)),
+        2 => put(&mut page, OPENING_OFFSET, BLANK),
         _ => {
             page = cleared_page(rng);
             let offset = 4 + rng.below(PAGE_BYTES - 4);
@@ -295,6 +308,31 @@ fn bad_page(rng: &mut Rng) -> Vec<u8> {
         }
     }
     page
+}
+
+/// A store in which several pages have no sound wear word, and no wear is above one that is picked.
+fn worn_unevenly(rng: &mut Rng) -> Vec<u8> {
+    let pages = if rng.one_in(20) { 32 } else { 4 + rng.below(5) };
+    let used = 1 + rng.below(pages - 3);
+    let orders = rising_orders(used, rng);
+    let based = rng.one_in(2);
+    let mut all = used_pages_of(&orders, based, rng);
+    while all.len() < pages {
+        all.push(match rng.below(4) {
+            _ if all.len() + 2 >= pages => unworn_page(rng),
+            0 => cleared_page(rng),
+            1 => other_page(orders[0], based, rng),
+            _ => unworn_page(rng),
+        });
+    }
+    let greatest = rng.pick(&[0, 7, 258, 65_532, 65_533, 65_534, 65_535]);
+    for page in &mut all {
+        if let Some(wear) = wear(page) {
+            put(page, WEAR_OFFSET, wear_word(wear.min(greatest)));
+        }
+    }
+    rng.shuffle(&mut all);
+    all.concat()
 }
 
 /// Pages that know nothing of each other: equal orders, no open page, every page used.

@@ -113,12 +113,15 @@ pub fn unclean_pages(image: &[u8]) -> Vec<usize> {
     (0..page_count(image)).filter(|&page| !is_used(page) && !is_cleared(page)).collect()
 }
 
-/// The wear of a page after its next erase.
+/// The greatest sound wear word in the image, whatever its page; 0 if there is none.
+pub fn greatest_wear(image: &[u8]) -> u16 {
+    image.chunks_exact(PAGE_BYTES).filter_map(wear).max().unwrap_or(0)
+}
+
+/// The wear that a page gets if it is erased now: one more than its own, and without a sound wear word one more than the
+/// greatest in the image, at most 65,535.
 pub fn next_wear(image: &[u8], page: usize) -> u16 {
-    match wear(page_at(image, page)) {
-        Some(wear) => wear.saturating_add(1),
-        None => 1,
-    }
+    wear(page_at(image, page)).unwrap_or_else(|| greatest_wear(image)).saturating_add(1)
 }
 
 /// Test 1.

@@ -73,7 +73,8 @@ impl Flash<'_> {
         self.program_header(page, WEAR_OFFSET, wear_word(wear));
     }
 
-    /// Looks at each page only when its turn comes: a page renewed never changes what the others are.
+    /// Looks at each page only when its turn comes: a page renewed never changes what the others are, but its new wear
+    /// counts for those behind it.
     fn recover_pages(&mut self) {
         for page in 0..page_count(self.image) {
             if unclean_pages(self.image).contains(&page) {

@@ -77,6 +77,19 @@ fn renew_steps(page: usize, wear: u16) -> [Step; 3] {
     [Step::Erase { page }, first, second]
 }
 
+/// The steps that renew these pages one after the other, each with the wear that it gets by the image just before its
+/// erase.
+fn renewal_steps(image: &[u8], pages: impl IntoIterator<Item = usize>) -> Vec<Step> {
+    let mut now = image.to_vec();
+    let mut steps = Vec::new();
+    for page in pages {
+        let renewed = renew_steps(page, next_wear(&now, page));
+        renewed.iter().for_each(|&step| do_step(&mut now, step));
+        steps.extend(renewed);
+    }
+    steps
+}
+
 pub fn format_steps(image: &[u8]) -> Result<Vec<Step>, u8> {
     test_size(image)?;
     let mut steps = Vec::new();
@@ -89,11 +102,7 @@ pub fn format_steps(image: &[u8]) -> Result<Vec<Step>, u8> {
 
 pub fn recovery_steps(image: &[u8]) -> Result<Vec<Step>, u8> {
     test_store(image)?;
-    let mut steps = Vec::new();
-    for page in unclean_pages(image) {
-        steps.extend(renew_steps(page, next_wear(image, page)));
-    }
-    Ok(steps)
+    Ok(renewal_steps(image, unclean_pages(image)))
 }
 
 pub fn write_steps(image: &[u8], address: u16, value: u8) -> Result<Vec<Step>, u8> {
@@ -125,9 +134,9 @@ fn move_steps(image: &[u8], page: usize, order: u32, address: u16, value: u8) ->
         steps.extend(record_steps(page, slot, address, value));
     }
     steps.extend(header_steps(page, DONE_OFFSET, done_word(order)));
-    for other in (0..page_count(image)).filter(|&other| other != page) {
-        steps.extend(renew_steps(other, next_wear(image, other)));
-    }
+    let mut filled = image.to_vec();
+    steps.iter().for_each(|&step| do_step(&mut filled, step));
+    steps.extend(renewal_steps(&filled, (0..page_count(image)).filter(|&other| other != page)));
     steps
 }
 

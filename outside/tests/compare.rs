@@ -10,7 +10,7 @@ use std::io::Write;
 use std::process::{Command, Stdio};
 use std::time::Instant;
 
-use outside::broken::{Broken, Eager};
+use outside::broken::{Broken, Eager, WRONG_WEARS};
 use outside::guard::{note_seed, Guarded, Place};
 use outside::images;
 use outside::page::*;
@@ -317,7 +317,7 @@ fn broken_stores_are_caught() {
         Broken::FirstBlankSlot,
     ];
     let seeds: Vec<u64> = (0..2_000).collect();
-    for broken in broken {
+    for broken in broken.into_iter().chain(WRONG_WEARS) {
         let stores = [&Second as &dyn Store, leak(Stepwise(broken))];
         let caught = compare_seeds(&seeds, |_| stores, &mut Tally::default());
         println!("{broken:?}: {}", caught.as_ref().expect_err("a broken store passed"));

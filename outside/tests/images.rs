@@ -66,6 +66,19 @@ fn look_at_store(image: &[u8], counts: &mut Counts) {
     note(counts, "active page full, 192 held", full && clean && held(image).len() == 192);
     note(counts, "gap in the orders", used.windows(2).any(|pair| pair[0].order > pair[1].order + 1));
     note(counts, "pages not in the order of their index", used.windows(2).any(|pair| pair[0].page < pair[1].page));
+    let unworn: Vec<usize> = (0..page_count(image)).filter(|&page| wear(page_at(image, page)).is_none()).collect();
+    if unworn.len() > 1 {
+        let unclean = unclean_pages(image);
+        let greatest = greatest_wear(image);
+        let of_used = used.iter().filter_map(|used| wear(page_at(image, used.page))).max();
+        let worn_first = unclean[0] < unworn[1] && !unworn.contains(&unclean[0]);
+        note(counts, "several pages without a wear", true);
+        note(counts, "several pages without a wear, greatest 65,533", greatest == 65_533);
+        note(counts, "several pages without a wear, greatest 65,534", greatest == 65_534);
+        note(counts, "several pages without a wear, greatest 65,535", greatest == 65_535);
+        note(counts, "several pages without a wear, greatest not used", Some(greatest) > of_used);
+        note(counts, "several pages without a wear, one with a wear renewed first", worn_first);
+    }
     for (pages, name) in [(2, "2 pages"), (3, "3 pages"), (8, "8 pages"), (31, "31 pages"), (32, "32 pages")] {
         note(counts, name, page_count(image) == pages);
     }

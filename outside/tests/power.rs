@@ -9,13 +9,14 @@
 use std::collections::BTreeMap;
 use std::time::Instant;
 
-use outside::broken::{Broken, Eager};
+use outside::broken::{Broken, Eager, WRONG_WEARS};
 use outside::failing::*;
 use outside::guard::{note_seed, Guarded, Place};
 use outside::images::{fill_active, some_addresses};
 use outside::page::*;
 use outside::rng::{asked_for, Rng};
 use outside::rules::*;
+use outside::word::*;
 use outside::*;
 
 /// The store under test.
@@ -57,6 +58,33 @@ struct History {
     ways: usize,
     /// How many other addresses are read each time.
     watched: usize,
+    /// How worn the store is at the start, if it is not as a format leaves it.
+    worn: Option<Worn>,
+}
+
+#[derive(Clone, Copy)]
+struct Worn {
+    /// The greatest wear that a page has.
+    greatest: u16,
+    /// How many cleared pages have no wear word: what a loose contact leaves, and more.
+    lost: usize,
+}
+
+const fn worn(greatest: u16, lost: usize) -> Option<Worn> {
+    Some(Worn { greatest, lost })
+}
+
+impl Worn {
+    /// Gives each page the greatest wear or one or two less, then takes the wear words from the cleared ones that are to
+    /// have none.
+    fn wear_out(self, image: &mut [u8]) {
+        for (index, page) in image.chunks_exact_mut(PAGE_BYTES).enumerate() {
+            page[WEAR_OFFSET..WEAR_OFFSET + 4].copy_from_slice(&wear_word(self.greatest - index as u16 % 3));
+        }
+        for (page, _) in cleared_pages(image).into_iter().take(self.lost) {
+            image[page * PAGE_BYTES..(page + 1) * PAGE_BYTES].fill(255);
+        }
+    }
 }
 
 #[derive(Default)]
@@ -151,7 +179,8 @@ impl Run<'_> {
     /// Stops when something was lost: from then on the model says nothing.
     fn go(&mut self) {
         let mut image = vec![0x5A; self.history.pages * PAGE_BYTES];
-        if let Err(lost) = self.begin(&mut image) {
+        let begun = self.begin(&mut image).and_then(|()| self.wear_out(&mut image));
+        if let Err(lost) = begun {
             return self.report.lose(lost);
         }
         let mut examined = 0;
@@ -181,6 +210,34 @@ impl Run<'_> {
             self.write_quietly(image, self.pool[index], value);
         }
         Ok(())
+    }
+
+    /// Wears the store as the history says, and lets power fail at every step of the recovery that it needs then, and in
+    /// those after it. Every address answers as before.
+    fn wear_out(&mut self, image: &mut [u8]) -> Outcome<()> {
+        let Some(worn) = self.history.worn else {
+            return Ok(());
+        };
+        worn.wear_out(image);
+        let steps = self.recovery_steps(image)?;
+        let address = self.rng.pick(&self.pool);
+        let same = held_or_not(self.model.get(&address));
+        let written = Written { address, old: same, new: same };
+        for allowance in 0..steps.len() {
+            self.check_recovery(&mut image.to_vec(), &steps, allowance as u16)?;
+        }
+        let stages = stages(image, &steps);
+        for (at, &step) in steps.iter().enumerate() {
+            for failing in self.ways_to_fail(step) {
+                let mut left = stages[at].clone();
+                fail(&mut left, step, failing, &mut self.rng);
+                *self.report.recoveries.entry("of a worn store, failing at each step").or_default() += 1;
+                let found = self.check_failure(&left, written)?;
+                self.recover_troubled(&mut left, written, found)?;
+            }
+        }
+        self.finish_recovery(image)?;
+        self.check_failure(image, written).map(|_| ())
     }
 
     fn some_write(&mut self) -> (u16, u8) {
@@ -315,6 +372,17 @@ impl Run<'_> {
     /// finishes. Says whether the new value is there.
     fn examine_failure(&mut self, image: &mut [u8], written: Written) -> Outcome<bool> {
         let new = self.check_failure(image, written)?;
+        self.recover_troubled(image, written, new)?;
+        if new {
+            self.report.left_new += 1;
+        } else {
+            self.report.left_old += 1;
+        }
+        Ok(new)
+    }
+
+    /// Recoveries that change no answer, the last of which finishes.
+    fn recover_troubled(&mut self, image: &mut [u8], written: Written, new: bool) -> Outcome<()> {
         for _ in 0..self.rng.below(3) {
             self.fail_in_a_recovery(image)?;
             let still = self.check_failure(image, written)?;
@@ -322,13 +390,7 @@ impl Run<'_> {
         }
         self.finish_recovery(image)?;
         let still = self.check_failure(image, written)?;
-        demand(still == new, Clause::Written, || format!("the last recovery turned new {new} into new {still}"))?;
-        if new {
-            self.report.left_new += 1;
-        } else {
-            self.report.left_old += 1;
-        }
-        Ok(new)
+        demand(still == new, Clause::Written, || format!("the last recovery turned new {new} into new {still}"))
     }
 
     fn check_failure(&mut self, image: &[u8], written: Written) -> Outcome<bool> {
@@ -416,10 +478,26 @@ fn run(history: History, store: &dyn Store, plan: &dyn Plan, report: &mut Report
     }
 }
 
-const PLAIN_RUN: History =
-    History { seed: 0, pages: 2, held: 6, examined: 0, fast: false, only_moves: false, ways: 10, watched: 12 };
+const PLAIN_RUN: History = History {
+    seed: 0,
+    pages: 2,
+    held: 6,
+    examined: 0,
+    fast: false,
+    only_moves: false,
+    ways: 10,
+    watched: 12,
+    worn: None,
+};
 const FAST: History = History { examined: 60, fast: true, ..PLAIN_RUN };
 const MOVE: History = History { examined: 1, only_moves: true, ..FAST };
+
+/// The first one wears out, the second has worn out, and in the third wears are far from it.
+const WORN: [History; 3] = [
+    History { seed: 13, pages: 5, held: 8, examined: 25, worn: worn(65_534, 3), ..FAST },
+    History { seed: 14, pages: 8, held: 10, examined: 10, watched: 6, worn: worn(65_535, 6), ..MOVE },
+    History { seed: 15, pages: 32, held: 5, examined: 20, ways: 6, watched: 4, worn: worn(9, 20), ..FAST },
+];
 
 const HISTORIES: [History; 11] = [
     History { seed: 1, examined: 300, ..PLAIN_RUN },
@@ -439,7 +517,8 @@ const HISTORIES: [History; 11] = [
 fn power_cuts_lose_nothing() {
     let mut report = Report::default();
     let guarded = [Place::AfterStartGuard, Place::BeforeEndGuard].map(|place| Guarded::new(SUBJECT, place));
-    let asked: Vec<History> = HISTORIES.into_iter().filter(|history| asked_for(history.seed)).collect();
+    let all = HISTORIES.into_iter().chain(WORN);
+    let asked: Vec<History> = all.clone().filter(|history| asked_for(history.seed)).collect();
     for &history in &asked {
         let begin = Instant::now();
         let before = report.failed_writes();
@@ -450,7 +529,7 @@ fn power_cuts_lose_nothing() {
     }
     report.print();
     assert_eq!(report.first_lost, None);
-    if asked.len() == HISTORIES.len() {
+    if asked.len() == all.count() {
         assert!(report.failed_writes() >= 10_000);
         assert!([2, 3, 32].iter().all(|pages| report.moves.contains_key(pages)));
         assert!([3, 8, 32].iter().all(|pages| report.new_pages.contains_key(pages)));
@@ -486,4 +565,14 @@ fn broken_stores_are_caught() {
     let mut report = Report::default();
     run(history, &Eager, &Second, &mut report);
     assert!(report.lost.contains_key(&Clause::Steps), "Eager was not caught");
+}
+
+/// No clause of demand 3 speaks of wear, so only the second implementation's steps catch a wrong one.
+#[test]
+fn wrong_wears_are_caught() {
+    for broken in WRONG_WEARS {
+        let mut report = Report::default();
+        WORN.into_iter().for_each(|history| run(history, &Stepwise(broken), &Second, &mut report));
+        assert!(report.lost.contains_key(&Clause::Steps), "{broken:?} was not caught");
+    }
 }

@@ -1,11 +1,11 @@
-//! Single rules of document 01 beyond its examples, on every store at hand.
+//! Single rules of document 01 beyond its examples, and of wish 1 of document 02, on every store at hand.
 //!
-//! Broken stores that these catch: one that takes a receiving page for current, and one whose check counts the low half of
-//! each byte twice, see the last test.
+//! Broken stores that these catch: one that takes a receiving page for current, one whose check counts the low half of each
+//! byte twice, and those of which only the wear is wrong, see the last test.
 
 use std::panic::{catch_unwind, AssertUnwindSafe};
 
-use outside::broken::Broken;
+use outside::broken::{Broken, WRONG_WEARS};
 use outside::page::*;
 use outside::rules::*;
 use outside::word::*;
@@ -95,19 +95,50 @@ fn page_states() {
     assert_eq!(state(&page_of(wear, order_word(6, DONE), done_word(6), &[])), State::Bad);
 }
 
+/// A page that is neither used nor cleared, with this wear word.
+fn unclean(wear: Word) -> Vec<u8> {
+    page_of(wear, order_word(0, 0), BLANK, &[])
+}
+
+/// Recovery makes these pages, behind an open one, cleared pages of these wears.
+fn recovery_gives<const N: usize>(store: &dyn Store, open: u16, pages: [Vec<u8>; N], wears: [u16; N]) {
+    let open = page_of(wear_word(open), order_word(0, PLAIN), BLANK, &[]);
+    let renewed = pages.iter().filter(|page| !matches!(state(page), State::Cleared { .. })).count() as u16;
+    let mut image = [vec![open.clone()], pages.to_vec()].concat().concat();
+    let after = [vec![open], wears.map(cleared).to_vec()].concat().concat();
+    assert_eq!(store.recover(&mut image, u16::MAX), Stepped { number: OK, finished: true, steps: 3 * renewed });
+    assert!(image == after, "{wears:?}");
+    assert_eq!(store.recover(&mut image, 0), Stepped { number: OK, finished: true, steps: 0 });
+}
+
 #[test]
-fn recovery_counts_wear() {
-    let spoiled = [1, 0, 1, 23];
-    let headers = [wear_word(0), wear_word(65_534), wear_word(65_535), spoiled, BLANK, sound_word([9, 0, 2])];
-    let wears = [1, 65_535, 65_535, 1, 1, 1];
+fn a_page_that_has_a_wear_gets_one_more() {
     on_every_store(|store| {
-        let bad = headers.map(|header| page_of(header, order_word(0, 0), BLANK, &[]));
-        let mut image = [vec![plain(0, &[]), cleared(3)], bad.to_vec()].concat().concat();
-        let after = [vec![plain(0, &[]), cleared(3)], wears.map(cleared).to_vec()].concat().concat();
-        assert_eq!(store.recover(&mut image, 18), Stepped { number: OK, finished: true, steps: 18 });
-        assert!(image == after);
-        assert_eq!(store.recover(&mut image, 0), Stepped { number: OK, finished: true, steps: 0 });
+        let pages = [wear_word(0), wear_word(9), wear_word(65_534), wear_word(65_535)].map(unclean);
+        recovery_gives(store, 1, pages, [1, 10, 65_535, 65_535]);
     });
+}
+
+/// Wish 1: one more than the greatest sound wear word in the image just before its erase, at most 65,535.
+fn lost_wears(store: &dyn Store) {
+    let receiving = || page_of(wear_word(9), order_word(1, RECEIVING), BLANK, &[]);
+    let blank = || unclean(BLANK);
+    // The example.
+    recovery_gives(store, 7, [receiving(), blank(), blank()], [10, 11, 12]);
+    // A spoiled wear word and one of another edition are none.
+    recovery_gives(store, 7, [blank(), unclean([1, 0, 1, 23]), unclean(sound_word([9, 0, 2]))], [8, 9, 10]);
+    // The wear of a page counts in whatever state it is, also before the page's turn.
+    recovery_gives(store, 7, [blank(), cleared(20)], [21, 20]);
+    recovery_gives(store, 7, [blank(), receiving(), blank()], [10, 10, 11]);
+    recovery_gives(store, 0, [blank(), blank()], [1, 2]);
+    // The last wear.
+    recovery_gives(store, 65_533, [blank(), blank(), blank()], [65_534, 65_535, 65_535]);
+    recovery_gives(store, 65_535, [blank(), unclean(wear_word(3)), blank()], [65_535, 4, 65_535]);
+}
+
+#[test]
+fn a_page_without_a_wear_gets_one_more_than_the_greatest() {
+    on_every_store(lost_wears);
 }
 
 #[test]
@@ -176,4 +207,7 @@ fn broken_stores_are_caught() {
     let broken = Stepwise(Broken::ReceivingIsCurrent);
     assert!(catch_unwind(AssertUnwindSafe(|| assert_eq!(reads(&broken, &pages, 5), (OK, 1)))).is_err());
     assert!(catch_unwind(AssertUnwindSafe(|| checks_by_hand(&Stepwise(Broken::LowHalfTwice)))).is_err());
+    for broken in WRONG_WEARS {
+        assert!(catch_unwind(AssertUnwindSafe(|| lost_wears(&Stepwise(broken)))).is_err(), "{broken:?}");
+    }
 }

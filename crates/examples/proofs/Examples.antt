@@ -13,15 +13,16 @@ use Rattle.rules.specs.Page.{state-by, state, page}
 use Rattle.rules.specs.Store.{states, order₂, base, used, is-cleared, is-open, order, add-order, used-orders, greatest, active-order, is-active}
 use Rattle.rules.specs.Store.{index-of, active-index, add-page, used-pages, insert, oldest-first, add-record, records, all-records, journal, or-else}
 use Rattle.rules.specs.Store.{last-of, value, put, put-all, settings, held, past, free-slot, slots-at, active-slots, count, better, offered, least-worn, index}
-use Rattle.rules.specs.Steps.{way, way-steps, new-page, next-order, fill-steps, other, renew, renew-all, format-steps, renewed-wear, add-steps}
-use Rattle.rules.specs.Steps.{renewals, unclean, recovery-steps, append-steps, taken, open-steps, but, copy-steps, move-steps, has-free-slot}
-use Rattle.rules.specs.Steps.{is-value, write-steps}
+use Rattle.rules.specs.Store.{or-value}
+use Rattle.rules.specs.Steps.{way, way-steps, new-page, next-order, fill-steps, other, renew, renew-all, format-steps, renewed-wear, greatest-wear}
+use Rattle.rules.specs.Steps.{renewals, renew-each, renew-picked, unclean, recovery-steps, append-steps, taken, open-steps, but, copy-steps, move-steps}
+use Rattle.rules.specs.Steps.{has-free-slot, is-value, write-steps}
 use Rattle.rules.specs.Call.{this-form, first-of, store-rows, blank-read-rows, read-rows, write-rows, cut, page-count, pages, wrong-size, no-store}
 use Rattle.rules.specs.Call.{among, repeats, all-used, damaged, is-unclean, wrong-address, is-held, no-room, order-end, store-number}
-use Rattle.rules.specs.Call.{write-number, blank-read-number, read-number, accepted, format, stepped, recover, write, or-value, read, not-held-value}
+use Rattle.rules.specs.Call.{write-number, blank-read-number, read-number, accepted, format, stepped, recover, write, read, not-held-value}
 use Rattle.rules.specs.Call.{blank-value, blank-read, digits, lookup}
 use Rattle.rules.proofs.Laid.{laid, laid-all, within, run-laid}
-use Rattle.examples.specs.Examples.{same, holds, bytes, told, said, yes-no, did, empty-flash, numbers, rows, table, the-examples-hold}
+use Rattle.examples.specs.Examples.{same, holds, bytes, told, said, yes-no, did, done-by, empty-flash, numbers, rows, table, the-examples-hold}
 
 inside : within 1024 (length (empty-flash 2048)) (format-steps 1 2) ≡ true
 unfolding within format-steps renew-all renew word-steps wear-word opening-word number-word checked offset aim
@@ -33,15 +34,16 @@ unfolding format wrong-size page-count
 formatted = run-laid 1024 (format-steps 1 2) (empty-flash 2048) inside
 
 computed : T (holds (rows (laid-all 1024 (format-steps 1 2) (empty-flash 2048))))
-unfolding same holds bytes told said yes-no did laid laid-all numbers rows offset aim after run zeros check sound blank condition low16 low24 third
-    checked wear-word number-word opening-word done-word record-word slot-condition word-steps words wear-part opening-part done-part slots is-wear
-    wear-in is-opening order-in is-done all-blank state-after-wear state-by state page states order₂ base used is-cleared is-open order add-order
-    used-orders greatest active-order is-active index-of active-index add-page used-pages insert oldest-first add-record records all-records journal
-    or-else last-of value put put-all settings held past free-slot slots-at active-slots count better offered least-worn index renew renew-all
-    format-steps renewed-wear add-steps renewals unclean recovery-steps append-steps taken open-steps but copy-steps move-steps has-free-slot
-    is-value write-steps first-of store-rows blank-read-rows read-rows write-rows way way-steps new-page next-order fill-steps other cut page-count
-    pages wrong-size no-store among repeats all-used damaged is-unclean wrong-address is-held no-room order-end store-number write-number
-    blank-read-number read-number accepted format stepped recover write or-value read not-held-value blank-value blank-read digits lookup
+unfolding same holds bytes told said yes-no did done-by laid laid-all numbers rows offset aim after run zeros check sound blank condition low16 low24
+    third checked wear-word number-word opening-word done-word record-word slot-condition word-steps words wear-part opening-part done-part slots
+    is-wear wear-in is-opening order-in is-done all-blank state-after-wear state-by state page states order₂ base used is-cleared is-open order
+    add-order used-orders greatest active-order is-active index-of active-index add-page used-pages insert oldest-first add-record records all-records
+    journal or-else last-of value put put-all settings held past free-slot slots-at active-slots count better offered least-worn index renew renew-all
+    format-steps renewed-wear greatest-wear renewals renew-each renew-picked unclean recovery-steps append-steps taken open-steps but copy-steps
+    move-steps has-free-slot is-value write-steps first-of store-rows blank-read-rows read-rows write-rows way way-steps new-page next-order
+    fill-steps other cut page-count pages wrong-size no-store among repeats all-used damaged is-unclean wrong-address is-held no-room order-end
+    store-number write-number blank-read-number read-number accepted format stepped recover write or-value read not-held-value blank-value blank-read
+    digits lookup
 computed = tt
 
 pub examples : the-examples-hold

@@ -2,9 +2,13 @@
 use Prim.Native.Nat.{ℕ}
 use mathlib.Core.Bool.{Bool, true, false, _&&_}
 use mathlib.Core.List.{List, [], _∷_}
+use mathlib.Core.Option.{Option, none, some}
 use lib.ListN.{replicate}
 use lib.Dec.{T, eqb}
+use Rattle.rules.specs.Flash.{Step, program, erase}
 use Rattle.rules.specs.Word.{Word, word, Condition, Sound, Blank, Spoiled, condition, wear-word, opening-word, done-word, record-word, slot-condition}
+use Rattle.rules.specs.Page.{State, open₁, receiving, bad, Page}
+use Rattle.rules.specs.Steps.{recovery-steps}
 use Rattle.rules.specs.Call.{this-form, Stepped, Reading, format, recover, write, read, blank-read, lookup}
 
 -- a row: what the rules give, and what section X prints
@@ -45,6 +49,16 @@ yes-no false = 0
 
 unfoldable pub did : Stepped → List ℕ
 did r = r .number ∷ r .steps ∷ yes-no (r .finished) ∷ []
+
+-- steps: an erase by its page, a half-word that is programmed by its two bytes
+unfoldable pub done-by : List Step → List ℕ
+done-by [] = []
+done-by (program p w h low high ∷ ss) = low ∷ high ∷ done-by ss
+done-by (erase p ∷ ss) = p ∷ done-by ss
+
+-- a page as far as a recovery looks at it
+abbrev pub with-wear : State → Option ℕ → Page
+with-wear s wear = record { state = s; wear = wear; slots = [] }
 
 -- bytes of 255
 abbrev pub empty-flash : ℕ → List ℕ
@@ -92,6 +106,12 @@ rows two-pages =
     ∷ row (said (read this-form 5 (write this-form 5 65 1 two-pages .image))) (8 ∷ 0 ∷ [])
     ∷ row (did (write this-form 5 65 2 two-pages)) (0 ∷ 2 ∷ 1 ∷ [])
     ∷ row (said (read this-form 5 (write this-form 5 65 2 two-pages .image))) (0 ∷ 65 ∷ [])
+    -- X8. Page 0 open with wear 7, page 1 receiving with wear 9, pages 2 and 3 without a wear: recovery gives 10, 11 and 12.
+    ∷ row (done-by (recovery-steps 1 (with-wear (open₁ 0) (some 7) ∷ with-wear receiving (some 9) ∷ with-wear bad none ∷ with-wear bad none ∷ [])))
+    (1 ∷ 0x0A ∷ 0x00 ∷ 0x01 ∷ 0x15 ∷ 2 ∷ 0x0B ∷ 0x00 ∷ 0x01 ∷ 0x14 ∷ 3 ∷ 0x0C ∷ 0x00 ∷ 0x01 ∷ 0x15 ∷ [])
+    -- With wear 65,534 on page 0 and none on the others: each of them gets 65,535.
+    ∷ row (done-by (recovery-steps 1 (with-wear (open₁ 0) (some 65534) ∷ with-wear bad none ∷ with-wear bad none ∷ [])))
+    (1 ∷ 0xFF ∷ 0xFF ∷ 0x01 ∷ 0x07 ∷ 2 ∷ 0xFF ∷ 0xFF ∷ 0x01 ∷ 0x07 ∷ [])
     ∷ []
 
 unfoldable pub table : List Row

@@ -10,8 +10,8 @@ use borrow.Author.Tests.{eqb-true, eqb-false}
 use Rattle.rules.specs.Flash.{Step, run}
 use Rattle.rules.specs.Page.{size}
 use Rattle.rules.specs.Call.{this-form, page-count, wrong-size, store-number, write-number, read-number, blank-read-number, OK}
-use Rattle.rules.specs.Store.{value}
-use Rattle.rules.specs.Call.{SIZE, Stepped, Reading, Pairing, Formatted, accepted, stepped, recover, write, or-value, pages, read, blank-value, blank-read}
+use Rattle.rules.specs.Store.{value, or-value}
+use Rattle.rules.specs.Call.{SIZE, Stepped, Reading, Pairing, Formatted, accepted, stepped, recover, write, pages, read, blank-value, blank-read}
 use Rattle.rules.proofs.Truth.{by-cases}
 use Rattle.rules.proofs.Answers.{not-accepted, format-refused, format-done, stepped-refused, stepped-done, lookup-refused, lookup-done}
 use Rattle.promise.specs.Calls.{Question, value-at, blank-value-at, pairing-code, Answer, answer, Obeys}

@@ -1,5 +1,5 @@
--- What a page is by its header words, read at their offsets: the rules' state and renewed wear, test by test. Assumes nothing.
-use Prim.Native.Nat.{ℕ, _+_, _≤_, min}
+-- What a page is by its header words, read at their offsets: the rules' wear and state, test by test. Assumes nothing.
+use Prim.Native.Nat.{ℕ, _≤_}
 use mathlib.Core.Path.{_≡_, sym, _∙_}
 use mathlib.Core.Bool.{true, false, cond}
 use mathlib.Core.List.{List}
@@ -9,7 +9,6 @@ use lib.ListN.{length, drop}
 use Rattle.rules.specs.Word.{Word, words, low16}
 use Rattle.rules.specs.Page.{wear-part, opening-part, done-part, slots, is-wear, wear-in, is-opening, order-in, is-done, all-blank, cleared, open₁}
 use Rattle.rules.specs.Page.{open₂, receiving, bad, state-after-wear, state-by, state}
-use Rattle.rules.specs.Steps.{renewed-wear}
 use Rattle.words.specs.Read.{word-in}
 use Rattle.words.proofs.Parts.{word-of, drop-words}
 
@@ -50,14 +49,6 @@ module _ (edition : ℕ) (s : List ℕ) (h : 4 ≤ length s) {w : Word} (e : w �
   pub with-wear : is-wear edition w ≡ true → state edition (words s) ≡ state-after-wear (words s) (low16 w)
   unfolding state state-by
   with-wear t = rw (wear-present t)
-
-  pub renewed-first : is-wear edition w ≡ false → renewed-wear (wear-in edition (words s)) ≡ 1
-  unfolding renewed-wear
-  renewed-first t = rw (wear-absent t)
-
-  pub renewed-next : is-wear edition w ≡ true → renewed-wear (wear-in edition (words s)) ≡ min (low16 w + 1) 65535
-  unfolding renewed-wear
-  renewed-next t = rw (wear-present t)
 
 -- ---- by the opening word, of a page that has a wear word
 

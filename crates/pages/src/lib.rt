@@ -1,12 +1,11 @@
 // The state of one page (P4 to P8). A page is lent as the part of the image that it is.
 use words::Word;
 ghost use mathlib.Core.Path.{_≡_};
-ghost use Prim.Native.Nat.{_*_, _/_, _≤_, _<_};
+ghost use Prim.Native.Nat.{_+_, _*_, _/_, _≤_, _<_, min};
 ghost use lib.ListN.{length};
 ghost use Rattle.rules.specs.Word.{words};
 ghost use Rattle.rules.specs.Page.{size, is-wear, wear-in, is-opening, order-in, is-done, all-blank, state-after-wear, state};
-ghost use Rattle.rules.specs.Store.{order, free-slot};
-ghost use Rattle.rules.specs.Steps.{renewed-wear};
+ghost use Rattle.rules.specs.Store.{order, or-value, free-slot};
 ghost use Rattle.words.specs.Read.{as-word};
 ghost use Rattle.pages.specs.Read.{as-state, as-form, Lawful};
 
@@ -148,16 +147,23 @@ pub fn state_of(page: &[u8], edition: u8) -> State
     State::Bad
 }
 
-// C4. New wear: one more than the page had before its erase, 65,535 at most, and 1 for a page that had none.
-pub fn renewed_wear(page: &[u8], edition: u8) -> u16
+// P4. Wear of a page; `other` for a page that has none.
+pub fn wear_or(page: &[u8], edition: u8, other: u16) -> u16
     requires { ⌜ 4 ≤ length (now page) ⌝ }
-    ensures { λ r. ⌜ r ≡ renewed-wear (wear-in edition (words (now (page .entry)))) ⌝ }
+    ensures { λ r. ⌜ r ≡ or-value (wear-in edition (words (now (page .entry)))) other ⌝ }
 {
     let w = words::word_at(page, 0);
-    if !is_wear(w, edition) {
-        return 1;
+    let own = words::low16(w);
+    if is_wear(w, edition) {
+        return own;
     }
-    let wear = words::low16(w);
+    other
+}
+
+// C4. New wear: one more, 65,535 at most.
+pub fn one_more(wear: u16) -> u16
+    ensures { λ r. ⌜ r ≡ min (wear + 1) 65535 ⌝ }
+{
     if wear == 65535 {
         return 65535;
     }

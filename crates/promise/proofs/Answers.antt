@@ -8,10 +8,10 @@ use native.Mathlib.Omega.{arith}
 use lib.Dec.{eqb}
 use borrow.Author.Tests.{ne-eqb, eqb-true}
 use Rattle.rules.specs.Page.{Form}
-use Rattle.rules.specs.Store.{states, value}
+use Rattle.rules.specs.Store.{states, value, or-value}
 use Rattle.rules.specs.Steps.{is-value}
 use Rattle.rules.specs.Call.{pages, is-unclean, wrong-address, is-held, no-room, order-end, first-of, store-number, write-number, accepted}
-use Rattle.rules.specs.Call.{or-value, blank-value, not-held-value, digits, read, blank-read, lookup, OK, NO-STORE, DAMAGED, UNCLEAN, ADDRESS}
+use Rattle.rules.specs.Call.{blank-value, not-held-value, digits, read, blank-read, lookup, OK, NO-STORE, DAMAGED, UNCLEAN, ADDRESS}
 use Rattle.rules.specs.Call.{NO-ROOM, ORDER-END, NOT-HELD}
 use Rattle.rules.proofs.Truth.{by-cases}
 use Rattle.rules.proofs.Rows.{then, blank-read-goes-on, read-goes-on, write-goes-on}

@@ -14,13 +14,13 @@ use Rattle.rules.specs.Page.{Form, size, wear-part, opening-part, done-part, sl
 use Rattle.rules.specs.Page.{state-after-wear, state-by, state, page}
 use Rattle.rules.specs.Store.{states, order₂, base, used, is-cleared, is-open, order, add-order, used-orders, greatest, active-order, is-active}
 use Rattle.rules.specs.Store.{index-of, active-index, add-page, used-pages, insert, oldest-first, add-record, records, all-records, journal, or-else}
-use Rattle.rules.specs.Store.{last-of, value, put, put-all, settings, held, past, free-slot, slots-at, active-slots, count}
+use Rattle.rules.specs.Store.{last-of, value, put, put-all, settings, held, past, free-slot, slots-at, active-slots, count, or-value}
 use Rattle.rules.specs.Steps.{way, way-steps, new-page, next-order, fill-steps, other, renew, renew-all, format-steps, unclean, append-steps}
 use Rattle.rules.specs.Steps.{has-free-slot, is-value, write-steps}
 use Rattle.rules.specs.Call.{Formatted, Stepped, stepped, write, first-of, store-rows, blank-read-rows, read-rows, write-rows, this-form, Roomy}
 use Rattle.rules.specs.Call.{OK, cut, page-count, pages, wrong-size, no-store, among, repeats, all-used, damaged, is-unclean}
 use Rattle.rules.specs.Call.{wrong-address, is-held, no-room, order-end, store-number, write-number, blank-read-number, read-number, accepted}
-use Rattle.rules.specs.Call.{format, or-value, read}
+use Rattle.rules.specs.Call.{format, read}
 use Rattle.rules.proofs.Bits.{rises-refl}
 use Rattle.rules.proofs.Laid.{laid, laid-all, within, run-laid}
 use Rattle.rules.proofs.Plans.{BytesLeft}

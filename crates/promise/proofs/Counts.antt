@@ -5,18 +5,18 @@ use mathlib.Core.Bool.{true, false}
 use mathlib.Core.List.{List, [], _∷_, _++_}
 use native.Mathlib.Omega.{arith}
 use lib.ListN.{length}
-use lib.Dec.{eqb, leb}
-use borrow.Author.Tests.{eqb-true, eqb-false, ne-eqb, leb-false}
+use lib.Dec.{leb}
+use borrow.Author.Tests.{leb-false}
 use Rattle.rules.specs.Flash.{Step, program, erase}
 use Rattle.rules.specs.Word.{Word, word, wear-word, opening-word, done-word, record-word, word-steps}
 use Rattle.rules.specs.Page.{Form, Page, wear-place, opening-place, done-place, slot-place}
 use Rattle.rules.specs.Store.{Setting, setting, states, is-cleared, active-index, active-slots, free-slot, count, journal, put-all, settings, held, value}
-use Rattle.rules.specs.Steps.{Way, stay, append-to, open-at, move-to, renew, renewed-wear, add-steps, renewals, other}
+use Rattle.rules.specs.Steps.{Way, stay, append-to, open-at, move-to, renew, greatest-wear, Renewal, renewal, renewals, renew-each, renew-picked, other}
 use Rattle.rules.specs.Steps.{move-records, copy-steps, append-steps, open-steps, fill-steps, move-steps, taken, next-order, has-free-slot, is-value}
 use Rattle.rules.specs.Steps.{new-page, way, way-steps, write-steps}
 use Rattle.rules.specs.Call.{pages, is-held, no-room, write-number, OK}
 use Rattle.rules.proofs.Truth.{by-cases, not-both}
-use Rattle.rules.proofs.Lengths.{word-length, open-long, move-long}
+use Rattle.rules.proofs.Lengths.{word-length, renewals-others, open-long, move-long}
 use Rattle.rules.proofs.Cut.{pages-long}
 use Rattle.rules.proofs.Settings.{moved-length}
 use Rattle.rules.proofs.Rows.{write-fails}
@@ -55,38 +55,25 @@ erases-renew : (edition k n : ℕ) (ss : List Step) → erases (renew edition k 
 unfolding erases renew
 erases-renew edition k n ss = ap suc (erases-after (word-steps k wear-place (wear-word edition n)) ss (erases-word k wear-place (wear-word edition n)))
 
-erases-past : (edition t k : ℕ) (ps : List Page) → t < k → erases (renewals edition (λ j s. other t j) k ps) ≡ length ps
-unfolding erases renewals add-steps other
-erases-past edition t k [] l = refl
-erases-past edition t k (p ∷ ps) l =
-    rw (ne-eqb k t (λ e. omega arith)) (erases-renew edition k (renewed-wear (p .wear)) _ ∙ ap suc (erases-past edition t (suc k) ps (omega arith)))
-
-erases-others : (edition t k : ℕ) (ps : List Page) → k ≤ t → t < k + length ps → erases (renewals edition (λ j s. other t j) k ps) + 1 ≡ length ps
-unfolding erases renewals add-steps other
-erases-others edition t k [] l h = absurd (omega arith)
-erases-others edition t k (p ∷ ps) l h =
-    by-cases (eqb k t)
-    (λ e. let z = eqb-true k t e in let r = erases-past edition t (suc k) ps (omega arith) in rw e (omega arith))
-    (λ e.
-    let z = eqb-false k t e in
-    let ne : k ≡ t → ⊥ = z in
-    let lt : suc k ≤ t = omega arith in
-    let r = erases-others edition t (suc k) ps lt (omega arith) in
-    let n = erases-renew edition k (renewed-wear (p .wear)) (renewals edition (λ j s. other t j) (suc k) ps) in
-    rw e (omega arith))
+-- one for each page that is renewed
+erases-each : (edition : ℕ) (rs : List Renewal) → erases (renew-each edition rs) ≡ length rs
+unfolding erases renew-each
+erases-each edition [] = refl
+erases-each edition (renewal k n ∷ rs) = erases-renew edition k n (renew-each edition rs) ∙ ap suc (erases-each edition rs)
 
 -- a move to one of the pages
 move-erases : (edition p o : ℕ) (rs : List Setting) (ps : List Page) → p < length ps → erases (move-steps edition p o rs ps) + 1 ≡ length ps
-unfolding move-steps fill-steps
+unfolding move-steps renew-picked fill-steps
 move-erases edition p o rs ps l =
-    let rest = renewals edition (λ j s. other p j) 0 ps in
+    let others = renewals (λ j s. other p j) (greatest-wear ps) 0 ps in
     let done = word-steps p done-place (done-word o) in
     let copied = copy-steps p 0 rs in
     let opened = word-steps p opening-place (opening-word 2 o) in
     let none-yet : erases (opened ++ copied ++ done) ≡ 0 =
     erases-none (opened ++ copied) done (erases-none opened copied (erases-word p opening-place (opening-word 2 o)) (erases-copies p 0 rs))
     (erases-word p done-place (done-word o)) in
-    ap (λ (n : ℕ). n + 1) (erases-after (opened ++ copied ++ done) rest none-yet) ∙ erases-others edition p 0 ps (omega arith) (omega arith)
+    ap (λ (n : ℕ). n + 1) (erases-after (opened ++ copied ++ done) (renew-each edition others) none-yet ∙ erases-each edition others)
+    ∙ renewals-others p (greatest-wear ps) 0 ps (omega arith) (omega arith)
 
 -- a write that moves, moves to the page that is taken
 move-is : (a v : ℕ) (ps : List Page) → moves (way a v ps) ≡ true → way a v ps ≡ move-to (taken ps) (next-order ps)

@@ -1,14 +1,16 @@
 -- What a workshop asks about its handsets, each answered from the promise.
-use Prim.Native.Nat.{ℕ, suc, _+_, _-_, _*_, _≤_}
+use Prim.Native.Nat.{ℕ, suc, _+_, _-_, _*_, _≤_, _<_}
 use mathlib.Core.Path.{_≡_}
 use mathlib.Core.Logic.{_⊎_}
 use mathlib.Core.Bool.{Bool, true, false}
-use mathlib.Core.List.{List, [], _∷_}
-use lib.ListN.{length, replicate}
-use Rattle.rules.specs.Flash.{Step, program, erase, AllAllowed, bytes-at}
-use Rattle.rules.specs.Store.{states, base, used-orders, held}
-use Rattle.rules.specs.Steps.{format-steps, Way, stay, append-to, open-at, move-to, way}
-use Rattle.rules.specs.Page.{Form, size}
+use mathlib.Core.List.{List, [], _∷_, _++_}
+use mathlib.Core.Option.{none, some}
+use lib.ListN.{length, getD, replicate}
+use Rattle.rules.specs.Flash.{Step, program, erase, AllAllowed, bytes-at, run}
+use Rattle.rules.specs.Word.{word-steps, wear-word}
+use Rattle.rules.specs.Page.{Form, size, bad, Page, wear-place}
+use Rattle.rules.specs.Store.{states, base, is-cleared, count, used-orders, held}
+use Rattle.rules.specs.Steps.{renew, renewed-wear, greatest-wear, format-steps, Way, stay, append-to, open-at, move-to, taken, way}
 use Rattle.rules.specs.Call.{this-form, Roomy, held-limit, page-count, pages, wrong-size, store-number, repeats, all-used, write-number, OK}
 use Rattle.rules.specs.Call.{NOT-HELD, Reading, read, format}
 use Rattle.promise.specs.Calls.{Image, pairing-code, finds, by-the-rules}
@@ -67,6 +69,44 @@ a-move-wears-all-but-one = (fm : Form) (i : Image) (a v : ℕ) → write-number 
 
 abbrev pub another-write-wears-none : Type 0
 another-write-wears-none = (fm : Form) (i : Image) (a v : ℕ) → moves (way a v (pages fm i)) ≡ false → erases (write-of fm a v i) ≡ 0
+
+-- "Which wear does a recovery give a page?" Whatever the image, whenever it erases a page: the page is as it was at the call, and the
+-- next two steps program its wear word, with one more than its wear or, if it has none, than the greatest in the image just before the
+-- erase; 65,535 at most.
+abbrev pub page-at : (index : ℕ) → List Page → Page
+page-at p ps = getD ps p (record { state = bad; wear = none; slots = [] })
+
+pub record Rewears (fm : Form) (i : Image) (before : List Step) (p : ℕ) (after : List Step) : Type 0 where
+  pub wear : ℕ
+  pub rest : List Step
+  pub wear-word-next : after ≡ word-steps p wear-place (wear-word (fm .edition) wear) ++ rest
+  pub as-it-was : page-at p (pages fm (run (size fm) before i)) ≡ page-at p (pages fm i)
+  pub by-the-rule : wear ≡ renewed-wear (greatest-wear (pages fm (run (size fm) before i))) (page-at p (pages fm i) .wear)
+
+abbrev pub each-wear-follows-the-rule : Type 0
+each-wear-follows-the-rule = (fm : Form) → Roomy fm → (i : Image) → store-number fm i ≡ OK → (before : List Step) (p : ℕ) (after : List Step)
+    → recovery-of fm i ≡ before ++ erase p ∷ after → Rewears fm i before p after
+
+-- "Is a page that lost its wear word picked first again?" No, whatever the image. A recovery renews it, and at the moment that its new
+-- wear word is whole, its wear is greater than that of every other page, and if another page is cleared too, another is taken; or
+-- its wear is 65,535.
+abbrev pub Greatest : (index wear : ℕ) → List Page → Type 0
+Greatest p n ps = (q m : ℕ) → (q ≡ p → ⊥) → page-at q ps .wear ≡ some m → m < n
+
+abbrev pub PassedOver : (index : ℕ) → List Page → Type 0
+PassedOver p ps = 2 ≤ count is-cleared (states ps) → taken ps ≡ p → ⊥
+
+pub record ComesBack (fm : Form) (i : Image) (p : ℕ) : Type 0 where
+  pub before : List Step
+  pub after : List Step
+  pub wear : ℕ
+  pub steps : recovery-of fm i ≡ before ++ renew (fm .edition) p wear ++ after
+  pub wears-most : let ps = pages fm (run (size fm) (before ++ renew (fm .edition) p wear) i) in
+      (page-at p ps .wear ≡ some wear) × ((wear ≡ 65535) ⊎ (Greatest p wear ps × PassedOver p ps))
+
+abbrev pub a-lost-wear-comes-back-greatest : Type 0
+a-lost-wear-comes-back-greatest = (fm : Form) → Roomy fm → (i : Image) → store-number fm i ≡ OK → (p : ℕ) → p < page-count fm i
+    → page-at p (pages fm i) .wear ≡ none → ComesBack fm i p
 
 -- "How long can a write take?" It has at most 388 steps, and 3 for each page but one; and in a store of any number of pages, of the
 -- form that there is, there is a write with so many.

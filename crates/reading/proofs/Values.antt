@@ -7,8 +7,8 @@ use mathlib.Core.Option.{Option}
 use lib.Dec.{eqb}
 use borrow.Author.Tests.{eq-eqb, ne-eqb, eqb-true, eqb-false}
 use Rattle.rules.specs.Page.{Form}
-use Rattle.rules.specs.Store.{Setting, last-of, settings}
-use Rattle.rules.specs.Call.{pages, or-value, not-held-value, blank-value, digits}
+use Rattle.rules.specs.Store.{Setting, last-of, settings, or-value}
+use Rattle.rules.specs.Call.{pages, not-held-value, blank-value, digits}
 use Rattle.rules.proofs.Truth.{by-cases}
 use Rattle.rules.proofs.Held.{value-is}
 use Rattle.reading.specs.Answers.{code-in}

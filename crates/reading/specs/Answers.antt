@@ -4,8 +4,8 @@ use mathlib.Core.Path.{_≡_}
 use mathlib.Core.Bool.{not}
 use mathlib.Core.List.{List, [], _∷_}
 use lib.ListN.{length}
-use Rattle.rules.specs.Store.{Setting, Rising, last-of}
-use Rattle.rules.specs.Call.{Reading, Pairing, or-value, not-held-value, among, OK}
+use Rattle.rules.specs.Store.{Setting, Rising, last-of, or-value}
+use Rattle.rules.specs.Call.{Reading, Pairing, not-held-value, among, OK}
 use Rattle.settings.specs.Held.{Holds}
 use Rattle.reading.specs.declared.Reading.{Reading as Read}
 use Rattle.reading.specs.declared.Pairing.{Pairing as Pair}

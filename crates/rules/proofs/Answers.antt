@@ -10,11 +10,11 @@ use lib.Dec.{leb}
 use borrow.Author.Tests.{le-leb, lt-leb, ne-eqb}
 use Rattle.rules.specs.Flash.{Step, run}
 use Rattle.rules.specs.Page.{Form, size}
-use Rattle.rules.specs.Store.{states, value}
+use Rattle.rules.specs.Store.{states, value, or-value}
 use Rattle.rules.specs.Steps.{format-steps, is-value}
 use Rattle.rules.proofs.Rows.{then, blank-read-goes-on, read-goes-on, write-goes-on}
 use Rattle.rules.specs.Call.{first-of, page-count, pages, wrong-size, store-number, write-only-rows, write-number, blank-read-number, read-number}
-use Rattle.rules.specs.Call.{is-unclean, wrong-address, is-held, no-room, order-end, accepted, format, stepped, read, or-value}
+use Rattle.rules.specs.Call.{is-unclean, wrong-address, is-held, no-room, order-end, accepted, format, stepped, read}
 use Rattle.rules.specs.Call.{blank-value, blank-read, digits, among, lookup, OK, SIZE, ADDRESS, NOT-HELD, UNCLEAN, NO-ROOM, ORDER-END}
 
 -- ---- numbers

@@ -4,7 +4,7 @@ use Prim.Native.Nat.{ℕ, suc, _*_, _/_, _%_, _≤_, _<_}
 use mathlib.Core.Path.{_≡_, refl, sym, ap, _∙_, subst}
 use mathlib.Core.Logic.{_⊎_, inl, inr, ⊎-elim}
 use mathlib.Core.Bool.{false, not, _&&_}
-use mathlib.Core.List.{List, []}
+use mathlib.Core.List.{List, [], _++_}
 use mathlib.Core.Option.{Option, none}
 use native.Mathlib.Nat.{mul-div-cancel, mul-mod-left}
 use native.Mathlib.Omega.{arith}
@@ -21,7 +21,8 @@ use Rattle.rules.proofs.Truth.{or-false-left, or-false-right}
 use Rattle.rules.proofs.Rows.{store-passes, write-fails}
 use Rattle.rules.proofs.Cut.{cut-length}
 use Rattle.rules.proofs.Stores.{length-states, count-open, orders-used, count-used, count-all}
-use Rattle.rules.proofs.Phases.{Pages, through-left, through-end, through-map, turns-left, turns-later, turns-end, turns-either, store-run}
+use Rattle.rules.proofs.Phases.{Pages, through-left, through-end, through-front, through-map, turns-left, turns-later, turns-end}
+use Rattle.rules.proofs.Phases.{turns-either, store-run}
 use Rattle.rules.proofs.Plans.{AllAllowed, BytesLeft, left-pages, run-pages, through-allowed}
 use Rattle.rules.proofs.Told.{told}
 use Rattle.rules.proofs.Building.{Doable}
@@ -62,6 +63,15 @@ module _ (c : Frame) (J : List Setting) (F : Pages) (g : Good c J F) where
 abbrev pub frame : (fm : Form) → Roomy fm → (May : Type 0) (n : ℕ) → 2 ≤ n → Frame
 frame fm roomy May n two = record { form = fm; pages = n; limit = held-limit; May = May; two = two; some = omega arith; fits = omega arith }
 
+-- an image of so many pages has these
+sized-count : (fm : Form) (n : ℕ) (i : List ℕ) → length i ≡ n * size fm → page-count fm i ≡ n
+unfolding page-count
+sized-count fm n i l = ap (λ (m : ℕ). m / size fm) l ∙ mul-div-cancel n (omega arith)
+
+sized-pages : (fm : Form) (n : ℕ) (i : List ℕ) → length i ≡ n * size fm → pages fm i ≡ told (fm .edition) (cut (size fm) n i)
+unfolding pages
+sized-pages fm n i l = rw (sized-count fm n i l) refl
+
 pub record Healthy (fm : Form) (May : Type 0) (t : ℕ → Option ℕ) (i : List ℕ) : Type 0 where
   pub roomy : Roomy fm
   pub count : ℕ
@@ -81,12 +91,10 @@ module _ {fm : Form} {May : Type 0} {t : ℕ → Option ℕ} {i : List ℕ} (h :
   F = cut (size fm) (h .count) i
 
   counted : page-count fm i ≡ h .count
-  unfolding page-count
-  counted = ap (λ (n : ℕ). n / size fm) (h .sized) ∙ mul-div-cancel (h .count) (omega arith)
+  counted = sized-count fm (h .count) i (h .sized)
 
   pages-are : pages fm i ≡ told (fm .edition) F
-  unfolding pages
-  pages-are = rw counted refl
+  pages-are = sized-pages fm (h .count) i (h .sized)
 
   right-size : wrong-size fm i ≡ false
   unfolding wrong-size
@@ -204,6 +212,16 @@ recovery-cleans {fm = fm} {i = i} h =
     ∙ ap (told (fm .edition)) (y .0 ∙ ap (λ (ps : List Page). store-run (word-count fm) (recovery-steps (fm .edition) ps) (F h)) (pages-are h)) in
     rw e (ap not (eq-eqb _ 0 (recovered-clean (c h) (J h) (F h) (h .has .good))))
 
+-- the first steps of a recovery do to the pages what they do to the image
+part-pages : {fm : Form} {May : Type 0} {t : ℕ → Option ℕ} {i : List ℕ} (h : Healthy fm May t i) (xs ys : List Step)
+    → recovery-steps (fm .edition) (pages fm i) ≡ xs ++ ys
+    → pages fm (run (size fm) xs i) ≡ told (fm .edition) (store-run (word-count fm) xs (cut (size fm) (page-count fm i) i))
+part-pages {fm = fm} {t = t} {i = i} h xs ys e =
+    let front = through-front xs ys (subst (λ (ss : List Step). Throughout (c h) (Has (c h) t) ss (F h)) e (recovering h)) in
+    let y = run-pages (word-count fm) (h .count) xs i front (h .sized) in
+    sized-pages fm (h .count) (run (size fm) xs i) (y .1)
+    ∙ ap (told (fm .edition)) (y .0 ∙ ap (λ (n : ℕ). store-run (word-count fm) xs (cut (size fm) n i)) (sym (counted h)))
+
 -- ---- every accepted image has a good store, where power is steady
 
 pub accepted-healthy : (fm : Form) → Roomy fm → (i : List ℕ) → store-number fm i ≡ OK → Healthy fm ⊥ (λ x. value x (pages fm i)) i
@@ -245,6 +263,11 @@ accepted-healthy fm roomy i ok =
         };
       };
     }
+
+pub recovery-part : (fm : Form) → Roomy fm → (i : List ℕ) → store-number fm i ≡ OK → (xs ys : List Step)
+    → recovery-steps (fm .edition) (pages fm i) ≡ xs ++ ys
+    → pages fm (run (size fm) xs i) ≡ told (fm .edition) (store-run (word-count fm) xs (cut (size fm) (page-count fm i) i))
+recovery-part fm roomy i ok = part-pages (accepted-healthy fm roomy i ok)
 
 -- ---- a finished format
 

@@ -1,5 +1,5 @@
 -- How many steps each list of the rules has. Assumes nothing.
-use Prim.Native.Nat.{ℕ, zero, suc, _+_, _*_, _≤_, _<_}
+use Prim.Native.Nat.{ℕ, zero, suc, _+_, _*_, _≤_, _<_, max}
 use mathlib.Core.Path.{_≡_, refl}
 use mathlib.Core.List.{List, [], _∷_}
 use native.Mathlib.Omega.{arith}
@@ -9,7 +9,8 @@ use borrow.Author.Tests.{ne-eqb, eqb-true, eqb-false}
 use Rattle.rules.specs.Word.{Word, word, wear-word, opening-word, record-word, word-steps}
 use Rattle.rules.specs.Page.{Page, wear-place, opening-place, slot-place}
 use Rattle.rules.specs.Store.{Setting, setting}
-use Rattle.rules.specs.Steps.{renew, renew-all, format-steps, renewed-wear, add-steps, renewals, other, copy-steps, open-steps, fill-steps, move-steps}
+use Rattle.rules.specs.Steps.{renew, renew-all, format-steps, renewed-wear, greatest-wear, Renewal, renewal, renewals, renew-each, renew-picked, other}
+use Rattle.rules.specs.Steps.{copy-steps, open-steps, fill-steps, move-steps}
 use Rattle.rules.proofs.Truth.{by-cases}
 
 pub word-length : (p at : ℕ) (w : Word) → length (word-steps p at w) ≡ 2
@@ -36,27 +37,31 @@ pub open-long : (p o a v : ℕ) → length (open-steps p o a v) ≡ 4
 unfolding open-steps
 open-long p o a v = simp (length-append, word-length)
 
--- ---- a move: of every page but one, three steps
+-- ---- pages renewed: three steps for each
 
-renewals-all : (edition p k : ℕ) (ps : List Page) → p < k → length (renewals edition (λ j s. other p j) k ps) ≡ 3 * length ps
-unfolding renewals add-steps other
-renewals-all edition p k [] h = refl
-renewals-all edition p k (x ∷ ps) h =
-    let rest = renewals-all edition p (suc k) ps (omega arith) in
-    let three = renew-length edition k (renewed-wear (x .wear)) in
-    let l = length-append (renew edition k (renewed-wear (x .wear))) (renewals edition (λ j s. other p j) (suc k) ps) in
+pub each-long : (edition : ℕ) (rs : List Renewal) → length (renew-each edition rs) ≡ 3 * length rs
+unfolding renew-each
+each-long edition [] = refl
+each-long edition (renewal k w ∷ rs) =
+    omega (arith, length-append (renew edition k w) (renew-each edition rs), renew-length edition k w, each-long edition rs)
+
+-- ---- a move: every page but one is renewed
+
+renewals-all : (p g k : ℕ) (ps : List Page) → p < k → length (renewals (λ j s. other p j) g k ps) ≡ length ps
+unfolding renewals other
+renewals-all p g k [] h = refl
+renewals-all p g k (x ∷ ps) h =
+    let rest = renewals-all p (max g (renewed-wear g (x .wear))) (suc k) ps (omega arith) in
     rw (ne-eqb k p (λ e. omega arith)) (omega arith)
 
-renewals-others : (edition p k : ℕ) (ps : List Page) → k ≤ p → p < k + length ps → length (renewals edition (λ j s. other p j) k ps) + 3 ≡ 3 * length ps
-unfolding renewals add-steps other
-renewals-others edition p k [] h g = absurd (omega arith)
-renewals-others edition p k (x ∷ ps) h g =
-    by-cases (eqb k p) (λ t. let e = eqb-true k p t in let all = renewals-all edition p (suc k) ps (omega arith) in rw t (omega arith))
+pub renewals-others : (p g k : ℕ) (ps : List Page) → k ≤ p → p < k + length ps → length (renewals (λ j s. other p j) g k ps) + 1 ≡ length ps
+unfolding renewals other
+renewals-others p g k [] h l = absurd (omega arith)
+renewals-others p g k (x ∷ ps) h l =
+    by-cases (eqb k p) (λ t. let e = eqb-true k p t in let all = renewals-all p g (suc k) ps (omega arith) in rw t (omega arith))
     (λ t.
     let ne = eqb-false k p t in
-    let rest = renewals-others edition p (suc k) ps (omega arith) (omega arith) in
-    let three = renew-length edition k (renewed-wear (x .wear)) in
-    let l = length-append (renew edition k (renewed-wear (x .wear))) (renewals edition (λ j s. other p j) (suc k) ps) in
+    let rest = renewals-others p (max g (renewed-wear g (x .wear))) (suc k) ps (omega arith) (omega arith) in
     rw t (omega arith))
 
 copies-long : (p k : ℕ) (rs : List Setting) → length (copy-steps p k rs) ≡ 2 * length rs
@@ -72,7 +77,13 @@ fill-long p o rs = simp (length-append, word-length, copies-long) (omega arith)
 
 pub move-long : (edition p o : ℕ) (rs : List Setting) (ps : List Page) → p < length ps
     → length (move-steps edition p o rs ps) + 3 ≡ 4 + 2 * length rs + 3 * length ps
-unfolding move-steps
+unfolding move-steps renew-picked
 move-long edition p o rs ps h =
-    let others = renewals edition (λ j s. other p j) 0 ps in
-    omega (arith, fill-long p o rs, renewals-others edition p 0 ps (omega arith) (omega arith), length-append (fill-steps p o rs) others)
+    let others = renewals (λ j s. other p j) (greatest-wear ps) 0 ps in
+    omega (
+      arith,
+      fill-long p o rs,
+      renewals-others p (greatest-wear ps) 0 ps (omega arith) (omega arith),
+      each-long edition others,
+      length-append (fill-steps p o rs) (renew-each edition others),
+    )

@@ -15,6 +15,7 @@ pub mod Stores
 pub mod Active
 pub mod Building
 pub mod Renewing
+pub mod Wears
 pub mod Rows
 pub mod Ready
 pub mod Held

@@ -4,13 +4,14 @@ use mathlib.Core.Path.{_≡_, refl, sym, ap, _∙_, subst}
 use mathlib.Core.Bool.{Bool, true, false, not}
 use mathlib.Core.List.{List, [], _∷_, _++_, append-nil}
 use native.Mathlib.Omega.{arith}
-use lib.ListN.{length, length-map, replicate}
+use lib.ListN.{length, replicate}
+use lib.Seq.{set-append-seam}
 use borrow.Author.Tests.{le-leb, eq-eqb}
 use Rattle.rules.specs.Flash.{Step}
 use Rattle.rules.specs.Word.{Word, sound, opening-word, done-word, word-steps}
 use Rattle.rules.specs.Page.{blank-word, opening-part, done-part, State, open₂, Page, page, state, slots, opening-place, done-place}
 use Rattle.rules.specs.Store.{order, order₂, used, used-pages, oldest-first, insert, Setting, records, all-records}
-use Rattle.rules.specs.Steps.{copy-steps, renewals, add-steps, renew, renewed-wear, other, fill-steps, move-steps}
+use Rattle.rules.specs.Steps.{greatest-wear, renewals, renew-each, renew-picked, other, copy-steps, fill-steps, move-steps}
 use Rattle.rules.proofs.Truth.{not-both}
 use Rattle.rules.proofs.Words.{sound-light, blank-not-sound, done-sound}
 use Rattle.rules.proofs.Pages.{replicate-all-blank, undone-not-open, opened-received, opening-not-plain}
@@ -18,27 +19,15 @@ use Rattle.rules.proofs.Slots.{blank-records, records-append, Lawful, w
 use Rattle.rules.proofs.Stores.{orders, base-amid, used-amid, NoneUsed, none-used, none-used-pages}
 use Rattle.rules.proofs.Phases.{Pages, word-turns, word-run, turns-through, through-append, through-end, turns-after, turns-before, store-run}
 use Rattle.rules.proofs.Phases.{store-run-append}
-use Rattle.rules.proofs.Told.{told, told-amid}
+use Rattle.rules.proofs.Told.{told}
 use Rattle.rules.proofs.Active.{taken-page}
 use Rattle.rules.proofs.Building.{room, room-is, copy-run, copy-through}
 use Rattle.rules.proofs.Good.{Frame, slots-in, words-in, Throughout, Turning, Whole, Keeps, whole-amid, whole-word, keeps-with}
+use Rattle.rules.proofs.Renewing.{renewals-set}
 use Rattle.rules.proofs.Recovering.{Idle, renewals-through}
 use Rattle.rules.proofs.Opening.{Taking, pages-now, Kept, next, begun-whole, closed-keeps, opening-turns, base-below, base-apart, under-apart}
 
 -- ---- the other pages are renewed
-
--- what is not picked may change without a step changing
-renewals-skip : (edition : ℕ) (picks : ℕ → State → Bool) (i : ℕ) (fs : List Page) (p q : Page) (rs : List Page)
-    → ((s : State) → picks (i + length fs) s ≡ false) → renewals edition picks i (fs ++ p ∷ rs) ≡ renewals edition picks i (fs ++ q ∷ rs)
-unfolding renewals add-steps
-renewals-skip edition picks i [] p q rs h =
-    let e : i + 0 ≡ i = omega arith in
-    let g : (s : State) → picks i s ≡ false = λ s. subst (λ (x : ℕ). picks x s ≡ false) e (h s) in
-    rw (g (p .state), g (q .state))
-renewals-skip edition picks i (x ∷ fs) p q rs h =
-    let e : i + suc (length fs) ≡ suc i + length fs = omega arith in
-    ap (add-steps (picks i (x .state)) (renew edition i (renewed-wear (x .wear))))
-    (renewals-skip edition picks (suc i) fs p q rs (λ s. subst (λ (x : ℕ). picks x s ≡ false) e (h s)))
 
 -- pages that are not used may be picked
 idle-unused : (edition o : ℕ) (picks : ℕ → State → Bool) (i : ℕ) (F : Pages) → NoneUsed o (told edition F) → Idle edition o picks i F
@@ -97,9 +86,12 @@ module _ (c : Frame) (J : List Setting) (f : Pages) (w : Word) (r : Pages) (t : 
     abbrev doing : List Step
     doing = word-steps (length f) done-place (done-word o)
 
-    -- every other page is renewed
+    -- every other page is renewed, by the greatest wear at the call
+    abbrev greatest : ℕ
+    greatest = greatest-wear (told (c .form .edition) (pages-now c J f w r t))
+
     abbrev renewing : Pages → List Step
-    renewing F = renewals (c .form .edition) (λ j s. other (length f) j) 0 (told (c .form .edition) F)
+    renewing F = renew-each (c .form .edition) (renewals (λ j s. other (length f) j) greatest 0 (told (c .form .edition) F))
 
     room-there : replicate (slots-in c) blank-word ≡ room cs (replicate j blank-word)
     room-there = room-is cs (slots-in c) fits
@@ -174,21 +166,20 @@ module _ (c : Frame) (J : List Setting) (f : Pages) (w : Word) (r : Pages) (t : 
     renewing-same =
         let was = taken-page (slots-in c) w in
         let is = receives (done-word o) filled in
-        ap (renewals (c .form .edition) (λ j s. other (length f) j) 0) (told-amid (c .form .edition) f is r)
-        ∙ renewals-skip (c .form .edition) (λ j s. other (length f) j) 0 (told (c .form .edition) f) (page (c .form .edition) is) (page (c .form .edition) was)
-        (told (c .form .edition) r) (rw length-map other-not)
-        ∙ ap (renewals (c .form .edition) (λ j s. other (length f) j) 0) (sym (told-amid (c .form .edition) f was r))
+        ap (renew-each (c .form .edition))
+        (ap (λ (F : Pages). renewals (λ j s. other (length f) j) greatest 0 (told (c .form .edition) F)) (sym (set-append-seam f was r is))
+        ∙ renewals-set (c .form .edition) (λ j s. other (length f) j) greatest 0 (length f) is (f ++ was ∷ r) other-not)
 
     others-through : Throughout c New (renewing (pages-now c J f w r t)) (receiving (done-word o) filled)
     others-through =
         let G = receiving (done-word o) filled in
         subst (λ (ss : List Step). Throughout c New ss G) renewing-same
-        (renewals-through c o (o ∷ []) cs (λ j s. other (length f) j) [] G
+        (renewals-through c o (o ∷ []) cs (λ j s. other (length f) j) greatest [] G
         (idle-amid (c .form .edition) o (λ j s. other (length f) j) 0 f (receives (done-word o) filled) r (others-unused .0) (others-unused .1) other-not)
         done-keeps)
 
     pub move-turns : Turning c Old New (move-steps (c .form .edition) (length f) o cs (told (c .form .edition) (pages-now c J f w r t))) (pages-now c J f w r t)
-    unfolding move-steps fill-steps
+    unfolding move-steps renew-picked fill-steps
     move-turns =
         let F = pages-now c J f w r t in
         let k = words-in c in

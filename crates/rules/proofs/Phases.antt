@@ -81,6 +81,10 @@ module _ {k : ℕ} {May : Type 0} where
     through-append ys (end p) u = u
     through-append ys (step c p f t) u = step c p f (through-append ys t u)
 
+    pub through-front : (xs ys : List Step) {F : Pages} → Through k May P (xs ++ ys) F → Through k May P xs F
+    through-front [] ys t = end (through-start t)
+    through-front (s ∷ xs) ys (step c p f t) = step c p f (through-front xs ys t)
+
   module _ {Old New : Pages → Type 0} where
     pub turns-left : {n : ℕ} {ss : List Step} {F G : Pages} → May → Turns k May Old New ss F → PagesLeft k n ss F G → Old G ⊎ New G
     turns-left may (turn c p f t) between = inl p

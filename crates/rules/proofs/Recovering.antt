@@ -1,5 +1,5 @@
 -- Recovery, and the tail of a move: pages that are not used are renewed, and the store keeps its journal. Assumes nothing.
-use Prim.Native.Nat.{ℕ, suc}
+use Prim.Native.Nat.{ℕ, suc, max}
 use mathlib.Core.Path.{_≡_, refl, sym, ap, _∙_, subst}
 use mathlib.Core.Logic.{inr}
 use mathlib.Core.Bool.{Bool, true, false, not}
@@ -12,7 +12,7 @@ use Rattle.rules.specs.Flash.{erase}
 use Rattle.rules.specs.Word.{Word, wear-word}
 use Rattle.rules.specs.Page.{blank-word, State, page, state, wear-in}
 use Rattle.rules.specs.Store.{states, base, used, is-cleared, count, Setting}
-use Rattle.rules.specs.Steps.{renew, renewed-wear, add-steps, renewals, unclean, recovery-steps}
+use Rattle.rules.specs.Steps.{renew, renewed-wear, greatest-wear, renewals, renew-each, renew-picked, unclean, recovery-steps}
 use Rattle.rules.proofs.Truth.{by-cases, or-second, or-false-left}
 use Rattle.rules.proofs.Words.{Light, wear-sound}
 use Rattle.rules.proofs.Shape.{target, WordsRise, PageFails, erasing}
@@ -58,29 +58,30 @@ module _ (c : Frame) (b : ℕ) (os : List ℕ) (J : List Setting) where
       (subst (Throughout c Keeping _) (sym (erased (c .form .edition) k′ f pg r wear)) rest)
 
   module _ (picks : ℕ → State → Bool) where
-    onward-through : (f : Pages) (qg : List Word) (F : Pages)
-        → Throughout c Keeping (rest-steps (c .form .edition) k′ picks (length (f ++ qg ∷ [])) F) ((f ++ qg ∷ []) ++ F)
-        → Throughout c Keeping (rest-steps (c .form .edition) k′ picks (suc (length f)) F) (f ++ qg ∷ F)
-    onward-through f qg F h = rw (next-length f qg, append-snoc f qg F) at h
+    onward-through : (g : ℕ) (f : Pages) (qg : List Word) (F : Pages)
+        → Throughout c Keeping (rest-steps (c .form .edition) k′ picks g (length (f ++ qg ∷ [])) F) ((f ++ qg ∷ []) ++ F)
+        → Throughout c Keeping (rest-steps (c .form .edition) k′ picks g (suc (length f)) F) (f ++ qg ∷ F)
+    onward-through g f qg F h = rw (next-length f qg, append-snoc f qg F) at h
 
-    pub renewals-through : (f F : Pages) → Idle (c .form .edition) b picks (length f) F → Keeping (f ++ F)
-        → Throughout c Keeping (renewals (c .form .edition) picks (length f) (told (c .form .edition) F)) (f ++ F)
-    unfolding renewals add-steps page Idle
-    renewals-through f [] i h = end h
-    renewals-through f (pg ∷ F) i h =
+    -- whatever the wears are
+    pub renewals-through : (g : ℕ) (f F : Pages) → Idle (c .form .edition) b picks (length f) F → Keeping (f ++ F)
+        → Throughout c Keeping (rest-steps (c .form .edition) k′ picks g (length f) F) (f ++ F)
+    unfolding renewals renew-each page Idle
+    renewals-through g f [] i h = end h
+    renewals-through g f (pg ∷ F) i h =
         by-cases (picks (length f) (state (c .form .edition) pg))
         (λ t.
-        let w = renewed-wear (wear-in (c .form .edition) pg) in
+        let w = renewed-wear g (wear-in (c .form .edition) pg) in
         let qg = fresh (c .form .edition) k′ w in
         let first = renew-through f pg F w (i .0 t) h in
         let done = renew-run (c .form .edition) k′ f pg F w in
         let kept : Keeping ((f ++ qg ∷ []) ++ F) = rw append-snoc (subst Keeping done (through-end first)) in
-        let rest = renewals-through (f ++ qg ∷ []) F (rw (next-length f qg) (i .1)) kept in
-        rw t (through-append (rest-steps (c .form .edition) k′ picks (suc (length f)) F) first
-        (subst (Throughout c Keeping _) (sym done) (onward-through f qg F rest))))
+        let rest = renewals-through (max g w) (f ++ qg ∷ []) F (rw (next-length f qg) (i .1)) kept in
+        rw t (through-append (rest-steps (c .form .edition) k′ picks (max g w) (suc (length f)) F) first
+        (subst (Throughout c Keeping _) (sym done) (onward-through (max g w) f qg F rest))))
         (λ t.
-        let rest = renewals-through (f ++ pg ∷ []) F (rw (next-length f pg) (i .1)) (rw append-snoc h) in
-        rw t (onward-through f pg F rest))
+        let rest = renewals-through g (f ++ pg ∷ []) F (rw (next-length f pg) (i .1)) (rw append-snoc h) in
+        rw t (onward-through g f pg F rest))
 
 -- ---- recovery
 
@@ -96,20 +97,23 @@ module _ (edition k′ b : ℕ) where
   unfolding unclean is-cleared
   fresh-clean n = ap not (or-second (used b (state edition (fresh edition k′ n))) (rw (fresh-cleared edition n k′)))
 
-  renewed-clean : (i : ℕ) (F : Pages) → count (unclean b) (states (told edition (renewed edition k′ (λ i s. unclean b s) i F))) ≡ 0
+  renewed-clean : (g i : ℕ) (F : Pages) → count (unclean b) (states (told edition (renewed edition k′ (λ i s. unclean b s) g i F))) ≡ 0
   unfolding count states renewed page
-  renewed-clean i [] = refl
-  renewed-clean i (pg ∷ F) =
+  renewed-clean g i [] = refl
+  renewed-clean g i (pg ∷ F) =
       by-cases (unclean b (state edition pg))
-      (λ u. let rest = renewed-clean (suc i) F in rw (u, fresh-clean (renewed-wear (wear-in edition pg))) (omega arith))
-      (λ u. let rest = renewed-clean (suc i) F in rw (u, u) (omega arith))
+      (λ u.
+      let w = renewed-wear g (wear-in edition pg) in
+      let rest = renewed-clean (max g w) (suc i) F in
+      rw (u, fresh-clean w) (omega arith))
+      (λ u. let rest = renewed-clean g (suc i) F in rw (u, u) (omega arith))
 
 module _ (c : Frame) (J : List Setting) (F : Pages) (g : Good c J F) where
   -- no page that a recovery renews is used
   keeping : Throughout c (Keeps c (g .base-order) (g .used-by) J) (recovery-steps (c .form .edition) (told (c .form .edition) F)) F
-  unfolding recovery-steps unclean
+  unfolding recovery-steps renew-picked unclean
   keeping =
-      renewals-through c (g .base-order) (g .used-by) J _ [] F
+      renewals-through c (g .base-order) (g .used-by) J _ (greatest-wear (told (c .form .edition) F)) [] F
       (idle-all (c .form .edition) (g .base-order) _ (λ i s t. rw (← g .keeps .is-base) (or-false-left (used _ s) (is-cleared s) (not-true _ t))) 0 F)
       (g .keeps)
 
@@ -118,12 +122,13 @@ module _ (c : Frame) (J : List Setting) (F : Pages) (g : Good c J F) where
 
   pub recovered-clean : let G = told (c .form .edition) (store-run (words-in c) (recovery-steps (c .form .edition) (told (c .form .edition) F)) F) in
       count (unclean (base (states G))) (states G) ≡ 0
-  unfolding recovery-steps
+  unfolding recovery-steps renew-picked
   recovered-clean =
       let k′ = suc (suc (c .form .slot-count)) in
       let b = base (states (told (c .form .edition) F)) in
+      let greatest = greatest-wear (told (c .form .edition) F) in
       rw (
         through-end keeping .is-base
             ∙ sym (g .keeps .is-base),
-        renewals-run (c .form .edition) k′ (λ i s. unclean b s) [] F,
-      ) (renewed-clean (c .form .edition) k′ b 0 F)
+        renewals-run (c .form .edition) k′ (λ i s. unclean b s) greatest [] F,
+      ) (renewed-clean (c .form .edition) k′ b greatest 0 F)

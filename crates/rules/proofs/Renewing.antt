@@ -1,15 +1,15 @@
 -- Pages erased and given their wear words: what the pages are then, and that each step may be done. Assumes nothing.
-use Prim.Native.Nat.{ℕ, suc}
+use Prim.Native.Nat.{ℕ, zero, suc, _+_, max}
 use mathlib.Core.Path.{_≡_, refl, sym, ap, _∙_, subst}
-use mathlib.Core.Bool.{Bool, cond}
+use mathlib.Core.Bool.{Bool, false, cond}
 use mathlib.Core.List.{List, [], _∷_, _++_, map}
 use native.Mathlib.Omega.{arith}
-use lib.ListN.{length, length-append, replicate}
+use lib.ListN.{length, length-append, set, replicate}
 use lib.Seq.{append-snoc}
 use Rattle.rules.specs.Flash.{Step, erase}
 use Rattle.rules.specs.Word.{Word, wear-word, opening-word, word-steps}
 use Rattle.rules.specs.Page.{blank-word, State, page, state, wear-in, opening-place}
-use Rattle.rules.specs.Steps.{renew, renew-all, format-steps, renewed-wear, add-steps, renewals}
+use Rattle.rules.specs.Steps.{renew, renew-all, format-steps, renewed-wear, renewals, renew-each}
 use Rattle.rules.proofs.Truth.{by-cases}
 use Rattle.rules.proofs.Words.{wear-sound, opening-sound}
 use Rattle.rules.proofs.Shape.{target, page-after, store-after}
@@ -20,11 +20,13 @@ use Rattle.rules.proofs.Building.{Doable, word-any}
 abbrev pub fresh : (edition k′ wear : ℕ) → List Word
 fresh edition k′ wear = wear-word edition wear ∷ replicate k′ blank-word
 
--- the pages as renewed
-unfoldable pub renewed : (edition k′ : ℕ) → (ℕ → State → Bool) → ℕ → Pages → Pages
-renewed edition k′ picks i [] = []
-renewed edition k′ picks i (pg ∷ F) = cond (picks i (state edition pg)) (fresh edition k′ (renewed-wear (wear-in edition pg))) pg
-    ∷ renewed edition k′ picks (suc i) F
+-- the pages as renewed, g being the greatest wear when the first of them has its turn
+unfoldable pub renewed : (edition k′ : ℕ) → (ℕ → State → Bool) → (g i : ℕ) → Pages → Pages
+renewed edition k′ picks g i [] = []
+renewed edition k′ picks g i (pg ∷ F) =
+    let wear = renewed-wear g (wear-in edition pg) in
+    cond (picks i (state edition pg)) (fresh edition k′ wear ∷ renewed edition k′ picks (max g wear) (suc i) F)
+    (pg ∷ renewed edition k′ picks g (suc i) F)
 
 pub next-length : (f : Pages) (qg : List Word) → length (f ++ qg ∷ []) ≡ suc (length f)
 next-length f qg = let e = length-append f (qg ∷ []) in omega arith
@@ -42,26 +44,43 @@ module _ (edition k′ : ℕ) (f : Pages) (pg : List Word) (r : Pages) (wear : �
 
 module _ (edition k′ : ℕ) (picks : ℕ → State → Bool) where
   -- the steps for the pages from the i-th on
-  abbrev pub rest-steps : ℕ → Pages → List Step
-  rest-steps i F = renewals edition picks i (map (page edition) F)
+  abbrev pub rest-steps : (g i : ℕ) → Pages → List Step
+  rest-steps g i F = renew-each edition (renewals picks g i (map (page edition) F))
 
-  onward : (f : Pages) (qg : List Word) (F : Pages)
-      → store-run (suc k′) (rest-steps (length (f ++ qg ∷ [])) F) ((f ++ qg ∷ []) ++ F) ≡ (f ++ qg ∷ []) ++ renewed edition k′ picks (length (f ++ qg ∷ [])) F
-      → store-run (suc k′) (rest-steps (suc (length f)) F) (f ++ qg ∷ F) ≡ f ++ qg ∷ renewed edition k′ picks (suc (length f)) F
-  onward f qg F h = rw (next-length f qg, append-snoc f qg F, append-snoc f qg (renewed edition k′ picks (suc (length f)) F)) at h
+  onward : (g : ℕ) (f : Pages) (qg : List Word) (F : Pages)
+      → store-run (suc k′) (rest-steps g (length (f ++ qg ∷ [])) F) ((f ++ qg ∷ []) ++ F)
+      ≡ (f ++ qg ∷ []) ++ renewed edition k′ picks g (length (f ++ qg ∷ [])) F
+      → store-run (suc k′) (rest-steps g (suc (length f)) F) (f ++ qg ∷ F) ≡ f ++ qg ∷ renewed edition k′ picks g (suc (length f)) F
+  onward g f qg F h = rw (next-length f qg, append-snoc f qg F, append-snoc f qg (renewed edition k′ picks g (suc (length f)) F)) at h
 
-  pub renewals-run : (f F : Pages) → store-run (suc k′) (rest-steps (length f) F) (f ++ F) ≡ f ++ renewed edition k′ picks (length f) F
-  unfolding renewals renewed add-steps page store-run
-  renewals-run f [] = refl
-  renewals-run f (pg ∷ F) =
+  pub renewals-run : (g : ℕ) (f F : Pages) → store-run (suc k′) (rest-steps g (length f) F) (f ++ F) ≡ f ++ renewed edition k′ picks g (length f) F
+  unfolding renewals renew-each renewed page store-run
+  renewals-run g f [] = refl
+  renewals-run g f (pg ∷ F) =
       by-cases (picks (length f) (state edition pg))
       (λ t.
-      let w = renewed-wear (wear-in edition pg) in
+      let w = renewed-wear g (wear-in edition pg) in
+      let rest = rest-steps (max g w) (suc (length f)) F in
       rw t
-      (store-run-append (suc k′) (renew edition (length f) w) (rest-steps (suc (length f)) F) (f ++ pg ∷ F)
-      ∙ ap (store-run (suc k′) (rest-steps (suc (length f)) F)) (renew-run edition k′ f pg F w)
-      ∙ onward f (fresh edition k′ w) F (renewals-run (f ++ fresh edition k′ w ∷ []) F)))
-      (λ t. rw t (onward f pg F (renewals-run (f ++ pg ∷ []) F)))
+      (store-run-append (suc k′) (renew edition (length f) w) rest (f ++ pg ∷ F)
+      ∙ ap (store-run (suc k′) rest) (renew-run edition k′ f pg F w)
+      ∙ onward (max g w) f (fresh edition k′ w) F (renewals-run (max g w) (f ++ fresh edition k′ w ∷ []) F)))
+      (λ t. rw t (onward g f pg F (renewals-run g (f ++ pg ∷ []) F)))
+
+-- what is not picked may change without a renewal changing
+pub renewals-set : (edition : ℕ) (picks : ℕ → State → Bool) (g k p : ℕ) (x : List Word) (F : Pages) → ((s : State) → picks (k + p) s ≡ false)
+    → renewals picks g k (map (page edition) (set F p x)) ≡ renewals picks g k (map (page edition) F)
+unfolding renewals
+renewals-set edition picks g k p x [] h = refl
+renewals-set edition picks g k zero x (y ∷ F) h =
+    let e : k + 0 ≡ k = omega arith in
+    let n : (s : State) → picks k s ≡ false = λ s. subst (λ (m : ℕ). picks m s ≡ false) e (h s) in
+    rw (n (page edition x .state), n (page edition y .state))
+renewals-set edition picks g k (suc p) x (y ∷ F) h =
+    let e : k + suc p ≡ suc k + p = omega arith in
+    let rest : (m : ℕ) → renewals picks m (suc k) (map (page edition) (set F p x)) ≡ renewals picks m (suc k) (map (page edition) F) =
+    λ m. renewals-set edition picks m (suc k) p x F (λ s. subst (λ (m : ℕ). picks m s ≡ false) e (h s)) in
+    rw (rest g, rest (max g (renewed-wear g (page edition y .wear))))
 
 -- ---- format, of whatever stood there
 

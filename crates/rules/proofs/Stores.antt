@@ -397,7 +397,7 @@ pub record TakenAt (k : ℕ) (ps : List Page) : Type 0 where
   pub is-cleared : page .state ≡ cleared wear
 
 -- a state is cleared or it is not
-cleared-or-not : (s : State) → ((n : ℕ) × (s ≡ cleared n)) ⊎ ((is-cleared s ≡ false) × ((k : ℕ) → offered k s ≡ nobody))
+pub cleared-or-not : (s : State) → ((n : ℕ) × (s ≡ cleared n)) ⊎ ((is-cleared s ≡ false) × ((k : ℕ) → offered k s ≡ nobody))
 unfolding is-cleared offered
 cleared-or-not (cleared n) = inl (n, refl)
 cleared-or-not (open₁ o) = inr (refl, λ k. refl)

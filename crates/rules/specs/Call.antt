@@ -8,7 +8,7 @@ use lib.Dec.{eqb, leb, ltb}
 use Rattle.rules.specs.Flash.{Step, run}
 use Rattle.rules.specs.Word.{Word, words}
 use Rattle.rules.specs.Page.{Form, size, State, Page, page}
-use Rattle.rules.specs.Store.{states, base, used, is-open, used-orders, active-order, count, held, value}
+use Rattle.rules.specs.Store.{states, base, used, is-open, used-orders, active-order, count, held, value, or-value}
 use Rattle.rules.specs.Steps.{format-steps, recovery-steps, write-steps, unclean, is-value, has-free-slot}
 
 -- P1. the one form that there is: pages of 1,024 bytes, and so 253 slots
@@ -197,10 +197,6 @@ recover f n i = stepped f (store-number f i) n (recovery-steps (f .edition) (pag
 
 unfoldable pub write : (form : Form) (address value allowance : ℕ) → List ℕ → Stepped
 write f a v n i = stepped f (write-number f a v i) n (write-steps (f .edition) a v (pages f i)) i
-
-unfoldable pub or-value : Option ℕ → ℕ → ℕ
-or-value none other = other
-or-value (some v) other = v
 
 -- C17. Read: the value of the address.
 unfoldable pub read : (form : Form) (address : ℕ) → List ℕ → Reading

@@ -1,6 +1,6 @@
 -- C: the steps of format, recovery and write, fixed by the image at the call.
-use Prim.Native.Nat.{ℕ, zero, suc, _+_, min}
-use mathlib.Core.Bool.{Bool, true, false, cond, not, _||_}
+use Prim.Native.Nat.{ℕ, zero, suc, _+_, min, max}
+use mathlib.Core.Bool.{Bool, false, cond, not, _||_}
 use mathlib.Core.List.{List, [], _∷_, _++_}
 use mathlib.Core.Option.{Option, none, some}
 use lib.ListN.{length}
@@ -9,7 +9,7 @@ use Rattle.rules.specs.Flash.{Step, erase}
 use Rattle.rules.specs.Word.{word-steps, wear-word, opening-word, done-word, record-word}
 use Rattle.rules.specs.Page.{State, Page, wear-place, opening-place, done-place, slot-place}
 use Rattle.rules.specs.Store.{states, base, used, is-cleared, active-order, active-index, active-slots, count, least-worn, index, Setting}
-use Rattle.rules.specs.Store.{setting, settings, value, free-slot}
+use Rattle.rules.specs.Store.{setting, settings, value, or-value, free-slot}
 
 -- C3. Renewing a page: it is erased and gets a wear word.
 unfoldable pub renew : (edition index wear : ℕ) → List Step
@@ -23,27 +23,40 @@ renew-all edition k (suc n) = renew edition k 1 ++ renew-all edition (suc k) n
 unfoldable pub format-steps : (edition pages : ℕ) → List Step
 format-steps edition n = renew-all edition 0 n ++ word-steps 0 opening-place (opening-word 1 0)
 
--- C4. New wear: one more than the page had, 65,535 at most; 1 if it had none.
-unfoldable pub renewed-wear : Option ℕ → ℕ
-renewed-wear none = 1
-renewed-wear (some n) = min (n + 1) 65535
+-- C4. New wear: one more than the page had or, if it had none, than the greatest in the image just before its erase; 65,535 at most.
+unfoldable pub renewed-wear : (greatest : ℕ) → Option ℕ → ℕ
+renewed-wear greatest wear = min (or-value wear greatest + 1) 65535
 
--- the pages that a test of index and state picks, in index order, renewed
-unfoldable pub add-steps : Bool → List Step → List Step → List Step
-add-steps true these rest = these ++ rest
-add-steps false these rest = rest
+-- the greatest wear that a page has, 0 if none has one
+unfoldable pub greatest-wear : List Page → ℕ
+greatest-wear [] = 0
+greatest-wear (p ∷ ps) = max (or-value (p .wear) 0) (greatest-wear ps)
 
-unfoldable pub renewals : (edition : ℕ) → (ℕ → State → Bool) → (from : ℕ) → List Page → List Step
-renewals edition picks k [] = []
-renewals edition picks k (p ∷ ps) =
-    add-steps (picks k (p .state)) (renew edition k (renewed-wear (p .wear))) (renewals edition picks (suc k) ps)
+-- a page that is to be renewed, and its new wear
+pub data Renewal : Type 0 where
+  renewal : (page wear : ℕ) → Renewal
+
+-- The pages that a test of index and state picks, in index order. `greatest` is that of the image when a page's turn comes: a new
+-- wear counts for the pages behind it, and as it is never less than the old one, the greatest only grows.
+unfoldable pub renewals : (ℕ → State → Bool) → (greatest from : ℕ) → List Page → List Renewal
+renewals picks greatest k [] = []
+renewals picks greatest k (p ∷ ps) =
+    let wear = renewed-wear greatest (p .wear) in
+    cond (picks k (p .state)) (renewal k wear ∷ renewals picks (max greatest wear) (suc k) ps) (renewals picks greatest (suc k) ps)
+
+unfoldable pub renew-each : (edition : ℕ) → List Renewal → List Step
+renew-each edition [] = []
+renew-each edition (renewal k wear ∷ rs) = renew edition k wear ++ renew-each edition rs
+
+unfoldable pub renew-picked : (edition : ℕ) → (ℕ → State → Bool) → List Page → List Step
+renew-picked edition picks ps = renew-each edition (renewals picks (greatest-wear ps) 0 ps)
 
 -- S9. Unclean: neither used nor cleared. C6. Recovery: the unclean pages are renewed.
 unfoldable pub unclean : (base : ℕ) → State → Bool
 unclean b s = not (used b s || is-cleared s)
 
 unfoldable pub recovery-steps : (edition : ℕ) → List Page → List Step
-recovery-steps edition ps = renewals edition (λ k s. unclean (base (states ps)) s) 0 ps
+recovery-steps edition ps = renew-picked edition (λ k s. unclean (base (states ps)) s) ps
 
 -- C7. Write: which way. The record goes nowhere, the address having the value already; into the free slot; into a cleared page, which
 -- is opened with an order; or, with all that is held, into the last cleared page, which is moved to with an order.
@@ -105,7 +118,7 @@ unfoldable pub other : (page index : ℕ) → Bool
 other p k = not (eqb k p)
 
 unfoldable pub move-steps : (edition page order : ℕ) → List Setting → List Page → List Step
-move-steps edition p o rs ps = fill-steps p o rs ++ renewals edition (λ k s. other p k) 0 ps
+move-steps edition p o rs ps = fill-steps p o rs ++ renew-picked edition (λ k s. other p k) ps
 
 unfoldable pub way-steps : (edition address value : ℕ) → List Page → Way → List Step
 way-steps edition a v ps stay = []

@@ -143,6 +143,11 @@ last-of a (setting b v ∷ rs) = or-else (last-of a rs) (cond (eqb a b) (some v)
 unfoldable pub value : (address : ℕ) → List Page → Option ℕ
 value a ps = last-of a (journal ps)
 
+-- a number, or another where there is none
+unfoldable pub or-value : Option ℕ → ℕ → ℕ
+or-value none other = other
+or-value (some v) other = v
+
 -- S7. Held: the held addresses, rising, each with its value. A record takes the place of an earlier one of its address.
 unfoldable pub put : Setting → List Setting → List Setting
 put s [] = s ∷ []

@@ -2,4 +2,5 @@
 pub mod Halves
 pub mod Renewing
 pub mod Picked
+pub mod Greatest
 pub mod Copies

@@ -1,8 +1,8 @@
 -- Picked pages, renewed one after the other, in the terms of the code. Assumes nothing.
-use Prim.Native.Nat.{ℕ, zero, suc, _+_, _-_, _*_, _≤_, _<_}
+use Prim.Native.Nat.{ℕ, zero, suc, _+_, _-_, _*_, _≤_, _<_, max}
 use mathlib.Core.Path.{_≡_, refl, sym, ap, ap₂, _∙_}
-use mathlib.Core.Bool.{Bool, true, false}
-use mathlib.Core.List.{List, [], _∷_, _++_, map, append-nil, append-assoc}
+use mathlib.Core.Bool.{Bool, true, false, cond}
+use mathlib.Core.List.{List, [], _∷_, _++_, append-nil}
 use native.Mathlib.Numerals.{add-one}
 use native.Mathlib.Omega.{arith}
 use lib.ListN.{length, getD, take, drop, replicate, length-append, length-map, length-replicate, List·getD-map}
@@ -10,26 +10,27 @@ use lib.Seq.{take-suc, take-all, length-take-le, drop-drop}
 use Rattle.rules.specs.Flash.{Half, Step, program, erase, first, second, offset, aim, bytes-at, after, run}
 use Rattle.rules.specs.Word.{Word, word, words, wear-word, word-steps}
 use Rattle.rules.specs.Page.{Form, word-count, size, State, Page, page, wear-in}
-use Rattle.rules.specs.Steps.{renew, renewed-wear, add-steps, renewals}
-use Rattle.rules.specs.Call.{cut}
+use Rattle.rules.specs.Steps.{renew, renewed-wear, greatest-wear, Renewal, renewal, renewals, renew-each, renew-picked}
+use Rattle.rules.specs.Call.{cut, first-pages}
 use Rattle.rules.proofs.Truth.{by-cases}
 use Rattle.rules.proofs.Cut.{cut-length, cut-page, drop-sets-below}
 use Rattle.rules.proofs.Plans.{cut-run}
 use Rattle.rules.proofs.Lengths.{renew-length}
+use Rattle.rules.proofs.Wears.{each-append}
 use Rattle.steps.specs.Picked.{wear-at, picked-steps}
 
 -- the part that the code lends, from an offset and of a size that were computed, is the page
-pub part-wear : (fm : Form) (p : ℕ) (i : List ℕ) (start n : ℕ) → start ≡ p * size fm → n ≡ size fm
-    → renewed-wear (wear-in (fm .edition) (words (take (start + n - start) (drop start i)))) ≡ wear-at fm p i
-unfolding wear-at bytes-at
-part-wear fm p i start n e f =
+pub part-is : (fm : Form) (p : ℕ) (i : List ℕ) (start n : ℕ) → start ≡ p * size fm → n ≡ size fm
+    → take (start + n - start) (drop start i) ≡ bytes-at (p * size fm) (size fm) i
+unfolding bytes-at
+part-is fm p i start n e f =
     let g : start + n - start ≡ n = omega arith in
-    ap₂ (λ (m o : ℕ). renewed-wear (wear-in (fm .edition) (words (take m (drop o i))))) (g ∙ f) e
+    ap₂ (λ (m o : ℕ). take m (drop o i)) (g ∙ f) e
 
--- a page that is as it was gets the wear that it would have got
+-- a page that is as it was has the wear that it had
 pub same-wear : (fm : Form) (p : ℕ) (i j : List ℕ) → drop (p * (size fm)) j ≡ drop (p * (size fm)) i → wear-at fm p j ≡ wear-at fm p i
 unfolding wear-at bytes-at
-same-wear fm p i j e = ap (λ (l : List ℕ). renewed-wear (wear-in (fm .edition) (words (take (size fm) l)))) e
+same-wear fm p i j e = ap (λ (l : List ℕ). wear-in (fm .edition) (words (take (size fm) l))) e
 
 -- ---- what lies behind a page stays as the page is renewed
 
@@ -73,116 +74,181 @@ renew-behind k edition p wear n i wide = steps n (wear-word edition wear)
 
 -- ---- one page after the other
 
-pub renewals-append : (edition : ℕ) (picks : ℕ → State → Bool) (k : ℕ) (xs ys : List Page)
-    → renewals edition picks k (xs ++ ys) ≡ renewals edition picks k xs ++ renewals edition picks (k + length xs) ys
-unfolding renewals add-steps
-renewals-append edition picks k [] ys = let e : k ≡ k + 0 = omega arith in ap (λ (x : ℕ). renewals edition picks x ys) e
-renewals-append edition picks k (p ∷ xs) ys =
+-- the greatest wear when the pages from the k-th on have had their turns
+unfoldable pub reached : (ℕ → State → Bool) → (g k : ℕ) → List Page → ℕ
+reached picks g k [] = g
+reached picks g k (p ∷ ps) = reached picks (cond (picks k (p .state)) (max g (renewed-wear g (p .wear))) g) (suc k) ps
+
+reached-append : (picks : ℕ → State → Bool) (g k : ℕ) (xs ys : List Page)
+    → reached picks g k (xs ++ ys) ≡ reached picks (reached picks g k xs) (k + length xs) ys
+unfolding reached
+reached-append picks g k [] ys = let e : k ≡ k + 0 = omega arith in ap (λ (x : ℕ). reached picks g x ys) e
+reached-append picks g k (p ∷ xs) ys =
     let e : suc k + length xs ≡ k + suc (length xs) = omega arith in
-    let rest = renewals-append edition picks (suc k) xs ys ∙ ap (λ (x : ℕ). renewals edition picks (suc k) xs ++ renewals edition picks x ys) e in
+    let m = cond (picks k (p .state)) (max g (renewed-wear g (p .wear))) g in
+    reached-append picks m (suc k) xs ys ∙ ap (λ (x : ℕ). reached picks (reached picks m (suc k) xs) x ys) e
+
+renewals-append : (picks : ℕ → State → Bool) (g k : ℕ) (xs ys : List Page)
+    → renewals picks g k (xs ++ ys) ≡ renewals picks g k xs ++ renewals picks (reached picks g k xs) (k + length xs) ys
+unfolding renewals reached
+renewals-append picks g k [] ys = let e : k ≡ k + 0 = omega arith in ap (λ (x : ℕ). renewals picks g x ys) e
+renewals-append picks g k (p ∷ xs) ys =
+    let e : suc k + length xs ≡ k + suc (length xs) = omega arith in
+    let w = renewed-wear g (p .wear) in
     by-cases (picks k (p .state))
-    (λ t. rw t (ap (λ (ss : List Step). renew edition k (renewed-wear (p .wear)) ++ ss) rest
-    ∙ sym (append-assoc (renew edition k (renewed-wear (p .wear))) (renewals edition picks (suc k) xs) (renewals edition picks (k + suc (length xs)) ys))))
-    (λ t. rw t rest)
+    (λ t. rw (t, ← e) (ap (λ (rs : List Renewal). renewal k w ∷ rs) (renewals-append picks (max g w) (suc k) xs ys)))
+    (λ t. rw (t, ← e) (renewals-append picks g (suc k) xs ys))
 
-module _ (fm : Form) (n : ℕ) (picks : List Bool) (i : List ℕ) where
+module _ (fm : Form) (n : ℕ) (i : List ℕ) where
   abbrev told : List Page
-  told = map (page (fm .edition)) (cut (size fm) n i)
+  told = first-pages fm n i
 
-  abbrev chosen : ℕ → State → Bool
-  chosen k s = getD picks k false
+  -- the page at an index
+  abbrev pub told-at : ℕ → Page
+  told-at j = page (fm .edition) (words (bytes-at (j * size fm) (size fm) i))
 
-  -- the steps for the first j pages
-  unfoldable pub upto : ℕ → List Step
-  upto j = renewals (fm .edition) chosen 0 (take j told)
+  told-long : length told ≡ n
+  told-long = length-map (cut (size fm) n i) (page (fm .edition)) ∙ cut-length (size fm) n i
 
-  told-at : (j : ℕ) → j < n → getD told j (page (fm .edition) []) ≡ page (fm .edition) (words (bytes-at (j * (size fm)) (size fm) i))
-  told-at j l = List·getD-map (page (fm .edition)) (cut (size fm) n i) j [] ∙ ap (page (fm .edition)) (cut-page (size fm) n j i l)
+  pub told-all : take n told ≡ told
+  told-all = take-all n told (omega (arith, told-long))
 
-  upto-next : (j : ℕ) → j < n
-      → upto (suc j) ≡ upto j ++ renewals (fm .edition) chosen j (page (fm .edition) (words (bytes-at (j * (size fm)) (size fm) i)) ∷ [])
-  unfolding upto
-  upto-next j l =
-      let long : length told ≡ n = length-map (cut (size fm) n i) (page (fm .edition)) ∙ cut-length (size fm) n i in
-      let in-told : j < length told = omega arith in
-      let front : length (take j told) ≡ j = length-take-le j told (omega arith) in
-      let e : 0 + length (take j told) ≡ j = omega arith in
-      ap (renewals (fm .edition) chosen 0) (take-suc told j (page (fm .edition) []) in-told ∙ ap (λ (p : Page). take j told ++ (p ∷ [])) (told-at j l))
-      ∙ renewals-append (fm .edition) chosen 0 (take j told) (page (fm .edition) (words (bytes-at (j * (size fm)) (size fm) i)) ∷ [])
-      ∙ ap (λ (x : ℕ). renewals (fm .edition) chosen 0 (take j told)
-      ++ renewals (fm .edition) chosen x (page (fm .edition) (words (bytes-at (j * (size fm)) (size fm) i)) ∷ [])) e
+  pub told-next : (j : ℕ) → j < n → take (suc j) told ≡ take j told ++ (told-at j ∷ [])
+  told-next j l =
+      take-suc told j (page (fm .edition) []) (omega (arith, told-long))
+      ∙ ap (λ (p : Page). take j told ++ (p ∷ []))
+      (List·getD-map (page (fm .edition)) (cut (size fm) n i) j [] ∙ ap (page (fm .edition)) (cut-page (size fm) n j i l))
 
-  pub upto-none : upto 0 ≡ []
-  unfolding upto renewals
-  upto-none = refl
+  module _ (picks : List Bool) where
+    abbrev chosen : ℕ → State → Bool
+    chosen k s = getD picks k false
 
-  pub upto-all : upto n ≡ picked-steps fm n picks i
-  unfolding upto picked-steps
-  upto-all = let long : length told ≡ n = length-map (cut (size fm) n i) (page (fm .edition))
-      ∙ cut-length (size fm) n i in ap (renewals (fm .edition) chosen 0) (take-all n told (omega arith))
+    -- the steps for the first j pages, and the greatest wear then
+    unfoldable pub upto : ℕ → List Step
+    upto j = renew-each (fm .edition) (renewals chosen (greatest-wear told) 0 (take j told))
 
-  pub upto-picked : (j : ℕ) → j < n → getD picks j false ≡ true → upto (j + 1) ≡ upto j ++ renew (fm .edition) j (wear-at fm j i)
-  unfolding renewals add-steps page wear-at
-  upto-picked j l t = rw add-one (upto-next j l
-      ∙ ap (λ (ss : List Step). upto j
-      ++ ss) (rw t (append-nil (renew (fm .edition) j (renewed-wear (wear-in (fm .edition) (words (bytes-at (j * (size fm)) (size fm) i))))))))
+    unfoldable pub greatest-at : ℕ → ℕ
+    greatest-at j = reached chosen (greatest-wear told) 0 (take j told)
 
-  pub upto-passed : (j : ℕ) → j < n → getD picks j false ≡ false → upto (j + 1) ≡ upto j
-  unfolding renewals add-steps
-  upto-passed j l t = rw add-one (upto-next j l ∙ ap (λ (ss : List Step). upto j ++ ss) (rw t) ∙ append-nil (upto j))
+    front : (j : ℕ) → j < n → 0 + length (take j told) ≡ j
+    front j l = omega (arith, length-take-le j told (omega (arith, told-long)))
+
+    upto-next : (j : ℕ) → j < n → upto (suc j) ≡ upto j ++ renew-each (fm .edition) (renewals chosen (greatest-at j) j (told-at j ∷ []))
+    unfolding upto greatest-at
+    upto-next j l =
+        let g = greatest-wear told in
+        ap (λ (ps : List Page). renew-each (fm .edition) (renewals chosen g 0 ps)) (told-next j l)
+        ∙ ap (renew-each (fm .edition)) (renewals-append chosen g 0 (take j told) (told-at j ∷ []))
+        ∙ each-append (fm .edition) (renewals chosen g 0 (take j told)) (renewals chosen (greatest-at j) (0 + length (take j told)) (told-at j ∷ []))
+        ∙ ap (λ (x : ℕ). upto j ++ renew-each (fm .edition) (renewals chosen (greatest-at j) x (told-at j ∷ []))) (front j l)
+
+    greatest-next : (j : ℕ) → j < n → greatest-at (suc j) ≡ reached chosen (greatest-at j) j (told-at j ∷ [])
+    unfolding greatest-at
+    greatest-next j l =
+        let g = greatest-wear told in
+        ap (reached chosen g 0) (told-next j l) ∙ reached-append chosen g 0 (take j told) (told-at j ∷ [])
+        ∙ ap (λ (x : ℕ). reached chosen (greatest-at j) x (told-at j ∷ [])) (front j l)
+
+    pub upto-none : upto 0 ≡ []
+    unfolding upto renewals renew-each
+    upto-none = refl
+
+    pub greatest-first : greatest-at 0 ≡ greatest-wear told
+    unfolding greatest-at reached
+    greatest-first = refl
+
+    pub upto-all : upto n ≡ picked-steps fm n picks i
+    unfolding upto picked-steps renew-picked
+    upto-all = ap (λ (ps : List Page). renew-each (fm .edition) (renewals chosen (greatest-wear told) 0 ps)) told-all
+
+    module _ (j : ℕ) (l : j < n) where
+      pub upto-picked : getD picks j false ≡ true → upto (j + 1) ≡ upto j ++ renew (fm .edition) j (renewed-wear (greatest-at j) (wear-at fm j i))
+      unfolding renewals renew-each page wear-at
+      upto-picked t =
+          let here = renew (fm .edition) j (renewed-wear (greatest-at j) (wear-at fm j i)) in
+          rw add-one (upto-next j l ∙ ap (λ (ss : List Step). upto j ++ ss) (rw t (append-nil here)))
+
+      pub greatest-picked : getD picks j false ≡ true → greatest-at (j + 1) ≡ max (greatest-at j) (renewed-wear (greatest-at j) (wear-at fm j i))
+      unfolding reached page wear-at
+      greatest-picked t = rw add-one (greatest-next j l ∙ rw t)
+
+      pub upto-passed : getD picks j false ≡ false → upto (j + 1) ≡ upto j
+      unfolding renewals renew-each
+      upto-passed t = rw add-one (upto-next j l ∙ ap (λ (ss : List Step). upto j ++ ss) (rw t) ∙ append-nil (upto j))
+
+      pub greatest-passed : getD picks j false ≡ false → greatest-at (j + 1) ≡ greatest-at j
+      unfolding reached
+      greatest-passed t = rw add-one (greatest-next j l ∙ rw t)
 
 -- what holds when the loop has passed j pages
-pub record Passed (fm : Form) (n left : ℕ) (picks : List Bool) (i : List ℕ) (j : ℕ) (image : List ℕ) (rest : ℕ) : Type 0 where
+pub record Passed (fm : Form) (n left : ℕ) (picks : List Bool) (i : List ℕ) (j : ℕ) (image : List ℕ) (rest greatest : ℕ) : Type 0 where
   pub long : length image ≡ length i
-  pub is-left : rest ≡ left - length (upto fm n picks i j)
-  pub is-image : image ≡ run (size fm) (take left (upto fm n picks i j)) i
+  pub is-left : rest ≡ left - length (upto fm n i picks j)
+  pub is-greatest : greatest ≡ greatest-at fm n i picks j
+  pub is-image : image ≡ run (size fm) (take left (upto fm n i picks j)) i
   pub behind : drop (j * (size fm)) image ≡ drop (j * (size fm)) i
 
 module _ (fm : Form) (n left : ℕ) (picks : List Bool) (i : List ℕ) where
-  pub passed-none : Passed fm n left picks i 0 i left
+  pub passed-none : (greatest : ℕ) → greatest ≡ greatest-wear (first-pages fm n i) → Passed fm n left picks i 0 i left greatest
   unfolding run
-  passed-none =
-      let e = upto-none fm n picks i in
-      record { long = refl; is-left = rw e (omega arith); is-image = rw e (none left); behind = refl }
+  passed-none greatest g =
+      let e = upto-none fm n i picks in
+      record {
+        long = refl;
+        is-left = rw e (omega arith);
+        is-greatest = g ∙ sym (greatest-first fm n i picks);
+        is-image = rw e (none left);
+        behind = refl;
+      }
     where
       none : (m : ℕ) → i ≡ run (size fm) (take m []) i
       none zero = refl
       none (suc m) = refl
 
-  module _ (j : ℕ) (image : List ℕ) (rest : ℕ) (h : Passed fm n left picks i j image rest) (in-range : j < n) where
+  module _ (j : ℕ) (image : List ℕ) (rest greatest : ℕ) (h : Passed fm n left picks i j image rest greatest) (in-range : j < n) where
     further : (l : List ℕ) → drop (j * (size fm) + (size fm)) l ≡ drop ((j + 1) * (size fm)) l
     further l = let e : j * (size fm) + (size fm) ≡ (j + 1) * (size fm) = omega arith in ap (λ (x : ℕ). drop x l) e
 
     behind-next : drop (j * (size fm) + (size fm)) image ≡ drop (j * (size fm) + (size fm)) i
     behind-next = sym (drop-drop (size fm) (j * (size fm)) image) ∙ ap (drop (size fm)) (h .behind) ∙ drop-drop (size fm) (j * (size fm)) i
 
-    pub passed-by : getD picks j false ≡ false → Passed fm n left picks i (j + 1) image rest
+    pub passed-by : getD picks j false ≡ false → Passed fm n left picks i (j + 1) image rest greatest
     passed-by t =
-        let e = upto-passed fm n picks i j in-range t in
-        record { long = h .long; is-left = rw e (h .is-left); is-image = rw e (h .is-image); behind = sym (further image) ∙ behind-next ∙ further i }
+        let e = upto-passed fm n i picks j in-range t in
+        record {
+          long = h .long;
+          is-left = rw e (h .is-left);
+          is-greatest = h .is-greatest ∙ sym (greatest-passed fm n i picks j in-range t);
+          is-image = rw e (h .is-image);
+          behind = sym (further image) ∙ behind-next ∙ further i;
+        }
 
-    pub passed-picked : (image′ : List ℕ) (rest′ : ℕ) → getD picks j false ≡ true → length image′ ≡ length image → rest′ ≡ rest - 3
-        → image′ ≡ run (size fm) (take rest (renew (fm .edition) j (wear-at fm j image))) image → Passed fm n left picks i (j + 1) image′ rest′
-    passed-picked image′ rest′ t l r q =
-        let w = wear-at fm j i in
-        let e = upto-picked fm n picks i j in-range t in
-        let len = length-append (upto fm n picks i j) (renew (fm .edition) j w) in
+    pub passed-picked : (image′ : List ℕ) (rest′ wear greatest′ : ℕ) → getD picks j false ≡ true → length image′ ≡ length image
+        → wear ≡ renewed-wear greatest (wear-at fm j image) → rest′ ≡ rest - 3 → image′ ≡ run (size fm) (take rest (renew (fm .edition) j wear)) image
+        → greatest′ ≡ max greatest wear → Passed fm n left picks i (j + 1) image′ rest′ greatest′
+    passed-picked image′ rest′ wear greatest′ t l is r q m =
+        let w = renewed-wear (greatest-at fm n i picks j) (wear-at fm j i) in
+        let got : wear ≡ w = is ∙ ap₂ renewed-wear (h .is-greatest) (same-wear fm j i image (h .behind)) in
+        let e = upto-picked fm n i picks j in-range t in
+        let len = length-append (upto fm n i picks j) (renew (fm .edition) j w) in
         let three = renew-length (fm .edition) j w in
         let q′ : image′ ≡ run (size fm) (take rest (renew (fm .edition) j w)) image = q
-        ∙ ap (λ (x : ℕ). run (size fm) (take rest (renew (fm .edition) j x)) image) (same-wear fm j i image (h .behind)) in
+        ∙ ap (λ (x : ℕ). run (size fm) (take rest (renew (fm .edition) j x)) image) got in
         let left-is = h .is-left in
         record {
           long = l ∙ h .long;
           is-left = rw e (omega arith);
+          is-greatest = m ∙ ap₂ max (h .is-greatest) got ∙ sym (greatest-picked fm n i picks j in-range t);
           is-image = rw e (q′ ∙ ap (λ (x : ℕ). run (size fm) (take x (renew (fm .edition) j w)) image) (h .is-left)
-              ∙ ap (run (size fm) (take (left - length (upto fm n picks i j)) (renew (fm .edition) j w))) (h .is-image)
-              ∙ sym (cut-run (size fm) left (upto fm n picks i j) (renew (fm .edition) j w) i));
+              ∙ ap (run (size fm) (take (left - length (upto fm n i picks j)) (renew (fm .edition) j w))) (h .is-image)
+              ∙ sym (cut-run (size fm) left (upto fm n i picks j) (renew (fm .edition) j w) i));
           behind = sym (further image′) ∙ ap (drop (j * (size fm) + (size fm))) q′
               ∙ renew-behind (word-count fm) (fm .edition) j w rest image (omega arith) ∙ behind-next ∙ further i;
         }
 
-pub passed-all : (fm : Form) (n left : ℕ) (picks : List Bool) (i : List ℕ) (j : ℕ) (image : List ℕ) (rest : ℕ) → Passed fm n left picks i j image rest
-    → j ≡ n → (rest ≡ left - length (picked-steps fm n picks i)) × (image ≡ run (size fm) (take left (picked-steps fm n picks i)) i)
-passed-all fm n left picks i j image rest h e =
-    let u : upto fm n picks i j ≡ picked-steps fm n picks i = ap (upto fm n picks i) e ∙ upto-all fm n picks i in
+pub passed-all : (fm : Form) (n left : ℕ) (picks : List Bool) (i : List ℕ) (j : ℕ) (image : List ℕ) (rest greatest : ℕ)
+    → Passed fm n left picks i j image rest greatest → j ≡ n
+    → (rest ≡ left - length (picked-steps fm n picks i)) × (image ≡ run (size fm) (take left (picked-steps fm n picks i)) i)
+passed-all fm n left picks i j image rest greatest h e =
+    let u : upto fm n i picks j ≡ picked-steps fm n picks i = ap (upto fm n i picks) e ∙ upto-all fm n i picks in
     (h .is-left ∙ ap (λ (ss : List Step). left - length ss) u, h .is-image ∙ ap (λ (ss : List Step). run (size fm) (take left ss) i) u)

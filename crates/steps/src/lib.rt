@@ -1,12 +1,14 @@
 // Steps under an allowance: each function takes how many steps are left, does no more of its own, and gives how many are
 // left then. The image changes through the two functions of crate flash only, one call for each step.
 ghost use mathlib.Core.Path.{_≡_};
-ghost use Prim.Native.Nat.{_+_, _-_, _*_, _≤_, _<_};
+ghost use Prim.Native.Nat.{_+_, _-_, _*_, _≤_, _<_, max};
 ghost use lib.ListN.{length, take};
 ghost use Rattle.rules.specs.Flash.{AllAllowed, run};
 ghost use Rattle.rules.specs.Page.{word-count, size};
 ghost use Rattle.rules.specs.Word.{word-steps};
-ghost use Rattle.rules.specs.Steps.{renew, renew-all, copy-steps};
+ghost use Rattle.rules.specs.Store.{or-value};
+ghost use Rattle.rules.specs.Steps.{renew, renew-all, greatest-wear, copy-steps};
+ghost use Rattle.rules.specs.Call.{first-pages};
 ghost use Rattle.words.specs.Read.{as-word};
 ghost use Rattle.pages.specs.Read.{as-form, Lawful};
 ghost use Rattle.steps.specs.Picked.{wear-at, picked-steps};
@@ -68,20 +70,42 @@ pub fn renew_all(image: &mut [u8], form: Form, n: usize)
     }
 }
 
-// C4. New wear: renews a page; its new wear follows from its own.
-pub fn renew_worn(image: &mut [u8], form: Form, page: usize, left: u16) -> u16
+// The greater of two wears.
+fn greater(a: u16, b: u16) -> u16
+    ensures { λ r. ⌜ r ≡ max a b ⌝ }
+{
+    if a < b {
+        return b;
+    }
+    a
+}
+
+// P4. Wear of the page at an index; `other` for a page that has none.
+fn wear_at(image: &[u8], form: Form, page: usize, other: u16) -> u16
     requires { ⌜ Lawful form × (page < 32) × (page * size (as-form form) + size (as-form form) ≤ length (now image)) ⌝ }
-    ensures { λ r. ⌜ r ≡ left - 3 ⌝ }
-    ensures { λ r. ⌜ now (image .exit) ≡ run (size (as-form form)) (take left (renew (form .edition) page (wear-at (as-form form) page (now (image .entry)))))
-        (now (image .entry)) ⌝ }
+    ensures { λ r. ⌜ r ≡ or-value (wear-at (as-form form) page (now (image .entry))) other ⌝ }
 {
     let at = form.start(page);
     let end = at + form.size();
-    let wear = pages::renewed_wear(&image[at..end], form.edition);
-    renew(image, form, page, wear, left)
+    pages::wear_or(&image[at..end], form.edition, other)
 }
 
-// Renews the picked pages among the first n, in index order.
+// The greatest wear of the first n pages, in whatever state they are; 0 if none has one.
+fn greatest_wear(image: &[u8], form: Form, n: usize) -> u16
+    requires { ⌜ Lawful form × (n ≤ 32) × (n * size (as-form form) ≤ length (now image)) ⌝ }
+    ensures { λ r. ⌜ r ≡ greatest-wear (first-pages (as-form form) n (now (image .entry))) ⌝ }
+{
+    let mut greatest = 0;
+    let mut i = 0;
+    while i < n {
+        greatest = greater(greatest, wear_at(image, form, i, 0));
+        i += 1;
+    }
+    greatest
+}
+
+// Renews the picked pages among the first n, in index order. C4. New wear: the greatest is looked for once, and grows as pages
+// are renewed.
 pub fn renew_picked(
     image: &mut [u8],
     form: Form,
@@ -94,11 +118,14 @@ pub fn renew_picked(
     ensures { λ r. ⌜ now (image .exit) ≡ run (size (as-form form)) (take left (picked-steps (as-form form) n picks (now (image .entry))))
         (now (image .entry)) ⌝ }
 {
+    let mut greatest = greatest_wear(image, form, n);
     let mut rest = left;
     let mut i = 0;
     while i < n {
         if picks[i] {
-            rest = renew_worn(image, form, i, rest);
+            let wear = pages::one_more(wear_at(image, form, i, greatest));
+            rest = renew(image, form, i, wear, rest);
+            greatest = greater(greatest, wear);
         }
         i += 1;
     }

@@ -1,6 +1,6 @@
 -- A move in the terms of the code: how many steps it has, and that its renewals are those of the image at the call, since no
 -- step before them works on another page. Assumes nothing.
-use Prim.Native.Nat.{ℕ, zero, suc, _+_, _*_, _≤_, _<_}
+use Prim.Native.Nat.{ℕ, zero, suc, _+_, _*_, _≤_, _<_, max}
 use mathlib.Core.Path.{_≡_, refl, sym, ap, _∙_, subst}
 use mathlib.Core.Bool.{Bool, false, not}
 use mathlib.Core.List.{List, [], _∷_, _++_, map}
@@ -11,12 +11,13 @@ use lib.Seq.{take-suc, take-length}
 use borrow.Author.Tests.{eq-eqb}
 use Rattle.rules.specs.Flash.{Half, Step, program, erase, after, run}
 use Rattle.rules.specs.Word.{Word, word, opening-word, done-word, record-word, word-steps}
-use Rattle.rules.specs.Page.{Form, word-count, size, State, page, opening-place, done-place, slot-place}
-use Rattle.rules.specs.Store.{Setting, setting, Rising, last-of}
-use Rattle.rules.specs.Steps.{renew, renewed-wear, add-steps, renewals, other, but, move-records, copy-steps, fill-steps, move-steps}
+use Rattle.rules.specs.Page.{Form, word-count, size, wear-part, wear-in, page, opening-place, done-place, slot-place}
+use Rattle.rules.specs.Store.{Setting, setting, Rising, last-of, or-value}
+use Rattle.rules.specs.Steps.{greatest-wear, renewals, renew-each, renew-picked, other, but, move-records, copy-steps, fill-steps, move-steps}
 use Rattle.rules.specs.Call.{Roomy, cut, first-pages}
 use Rattle.rules.proofs.Shape.{Within, target, page-after, store-after}
 use Rattle.rules.proofs.Lengths.{move-long}
+use Rattle.rules.proofs.Renewing.{renewals-set}
 use Rattle.rules.proofs.Cut.{cut-after, cut-length, length-after}
 use Rattle.rules.proofs.Settings.{but-cases, but-none, but-length, above-none, last-of-rest, none-some}
 use Rattle.settings.specs.Held.{addresses-of, values-of}
@@ -27,38 +28,39 @@ use Rattle.writing.specs.Picks.{picked}
 use Rattle.writing.specs.Plans.{Part, Tabled}
 use Rattle.writing.proofs.Picks.{picked-at}
 use Rattle.writing.proofs.Parts.{part-then}
-use Rattle.writing.proofs.Recovering.{renewals-agree}
+use Rattle.writing.proofs.Recovering.{picked-agree}
 
 -- ---- steps that program words of one page
 
+-- behind its wear word
 unfoldable OnPage : (k p : ℕ) → List Step → Type 0
 OnPage k p [] = Unit {0}
-OnPage k p (program q w h low high ∷ ss) = (q ≡ p) × (w < k) × OnPage k p ss
+OnPage k p (program q w h low high ∷ ss) = (q ≡ p) × (0 < w) × (w < k) × OnPage k p ss
 OnPage k p (erase q ∷ ss) = ⊥
 
 on-take : (m p n : ℕ) (ss : List Step) → OnPage m p ss → OnPage m p (take n ss)
 unfolding OnPage
 on-take m p zero ss h = tt
 on-take m p (suc n) [] h = tt
-on-take m p (suc n) (program q w g low high ∷ ss) h = (h .0, h .1, on-take m p n ss (h .2))
+on-take m p (suc n) (program q w g low high ∷ ss) h = (h .0, h .1, h .2, on-take m p n ss (h .3))
 on-take m p (suc n) (erase q ∷ ss) h = absurd h
 
 on-append : (m p : ℕ) (xs ys : List Step) → OnPage m p xs → OnPage m p ys → OnPage m p (xs ++ ys)
 unfolding OnPage
 on-append m p [] ys h g = g
-on-append m p (program q w k low high ∷ ss) ys h g = (h .0, h .1, on-append m p ss ys (h .2) g)
+on-append m p (program q w k low high ∷ ss) ys h g = (h .0, h .1, h .2, on-append m p ss ys (h .3) g)
 on-append m p (erase q ∷ ss) ys h g = absurd h
 
-on-word : (m p at : ℕ) (w : Word) → at < m → OnPage m p (word-steps p at w)
+on-word : (m p at : ℕ) (w : Word) → 0 < at → at < m → OnPage m p (word-steps p at w)
 unfolding OnPage word-steps
-on-word m p at (word a b c d) l = (refl, l, (refl, l, tt))
+on-word m p at (word a b c d) z l = (refl, z, l, (refl, z, l, tt))
 
 on-copies : (m p k : ℕ) (cs : List Setting) → 3 + k + length cs ≤ m → OnPage m p (copy-steps p k cs)
 unfolding OnPage copy-steps
 on-copies m p k [] l = tt
 on-copies m p k (setting a v ∷ cs) l =
     on-append m p (word-steps p (slot-place k) (record-word a v)) (copy-steps p (suc k) cs)
-    (on-word m p (slot-place k) (record-word a v) (omega arith)) (on-copies m p (suc k) cs (omega arith))
+    (on-word m p (slot-place k) (record-word a v) (omega arith) (omega arith)) (on-copies m p (suc k) cs (omega arith))
 
 on-fill : (m p o : ℕ) (cs : List Setting) → 3 + length cs ≤ m → OnPage m p (fill-steps p o cs)
 unfolding fill-steps
@@ -66,46 +68,51 @@ on-fill m p o cs l =
     let opening = word-steps p opening-place (opening-word 2 o) in
     let done = word-steps p done-place (done-word o) in
     on-append m p (opening ++ copy-steps p 0 cs) done
-    (on-append m p opening (copy-steps p 0 cs) (on-word m p opening-place (opening-word 2 o) (omega arith)) (on-copies m p 0 cs (omega arith)))
-    (on-word m p done-place (done-word o) (omega arith))
+    (on-append m p opening (copy-steps p 0 cs) (on-word m p opening-place (opening-word 2 o) (omega arith) (omega arith)) (on-copies m p 0 cs (omega arith)))
+    (on-word m p done-place (done-word o) (omega arith) (omega arith))
 
 -- ---- and do not change how the other pages are renewed
 
-renewals-set : (edition : ℕ) (picks : ℕ → State → Bool) (k p : ℕ) (x : List Word) (F : List (List Word)) → ((s : State) → picks (k + p) s ≡ false)
-    → renewals edition picks k (map (page edition) (set F p x)) ≡ renewals edition picks k (map (page edition) F)
-unfolding renewals add-steps
-renewals-set edition picks k p x [] h = refl
-renewals-set edition picks k zero x (y ∷ F) h =
-    let e : k + 0 ≡ k = omega arith in
-    let g : (s : State) → picks k s ≡ false = λ s. subst (λ (m : ℕ). picks m s ≡ false) e (h s) in
-    rw (g (page edition x .state), g (page edition y .state))
-renewals-set edition picks k (suc p) x (y ∷ F) h =
-    let e : k + suc p ≡ suc k + p = omega arith in
-    let here = renew edition k (renewed-wear (page edition y .wear)) in
-    ap (add-steps (picks k (page edition y .state)) here)
-    (renewals-set edition picks (suc k) p x F (λ s. subst (λ (m : ℕ). picks m s ≡ false) e (h s)))
+greatest-set : (edition p : ℕ) (x : List Word) (F : List (List Word)) → wear-in edition x ≡ wear-in edition (getD F p [])
+    → greatest-wear (map (page edition) (set F p x)) ≡ greatest-wear (map (page edition) F)
+unfolding greatest-wear page
+greatest-set edition p x [] e = refl
+greatest-set edition zero x (y ∷ F) e = rw e
+greatest-set edition (suc p) x (y ∷ F) e = ap (max (or-value (wear-in edition y) 0)) (greatest-set edition p x F e)
+
+-- the wear word stays where another word is programmed
+wear-stays : (edition k p w : ℕ) (h : Half) (low high : ℕ) (pg : List Word) → 0 < w
+    → wear-in edition (page-after k (program p w h low high) pg) ≡ wear-in edition pg
+unfolding page-after wear-in wear-part
+wear-stays edition k p (suc w) h low high [] l = refl
+wear-stays edition k p (suc w) h low high (x ∷ pg) l = refl
+wear-stays edition k p zero h low high pg l = absurd (omega arith)
 
 module _ (fm : Form) (n p : ℕ) (inside : p < n) where
   abbrev others : List ℕ → List Step
-  others i = renewals (fm .edition) (λ j s. other p j) 0 (first-pages fm n i)
+  others i = renew-picked (fm .edition) (λ j s. other p j) (first-pages fm n i)
 
-  program-kept : (q w : ℕ) (g : Half) (low high : ℕ) (i : List ℕ) → q ≡ p → w < word-count fm → length i ≡ n * size fm
+  program-kept : (q w : ℕ) (g : Half) (low high : ℕ) (i : List ℕ) → q ≡ p → 0 < w → w < word-count fm → length i ≡ n * size fm
       → others (after (size fm) (program q w g low high) i) ≡ others i
-  unfolding Within store-after target other
-  program-kept q w g low high i e v l =
+  unfolding Within store-after target other renew-picked
+  program-kept q w g low high i e z v l =
       let s = program q w g low high in
-      let z : 0 + q ≡ p = omega (arith, e) in
-      ap (λ (F : List (List Word)). renewals (fm .edition) (λ j s. other p j) 0 (map (page (fm .edition)) F))
+      let F = cut (size fm) n i in
+      let x = page-after (word-count fm) s (getD F q []) in
+      let same : 0 + q ≡ p = omega (arith, e) in
+      let greatest = greatest-wear (first-pages fm n i) in
+      ap (λ (G : List (List Word)). renew-picked (fm .edition) (λ j s. other p j) (map (page (fm .edition)) G))
       (cut-after (word-count fm) n s i l (subst (λ (m : ℕ). m < n) (sym e) inside, v))
-      ∙ renewals-set (fm .edition) (λ j s. other p j) 0 q (page-after (word-count fm) s (getD (cut (size fm) n i) q [])) (cut (size fm) n i)
-      (λ t. ap not (eq-eqb (0 + q) p z))
+      ∙ ap (λ (m : ℕ). renew-each (fm .edition) (renewals (λ j s. other p j) m 0 (map (page (fm .edition)) (set F q x))))
+      (greatest-set (fm .edition) q x F (wear-stays (fm .edition) (word-count fm) q w g low high (getD F q []) z))
+      ∙ ap (renew-each (fm .edition)) (renewals-set (fm .edition) (λ j s. other p j) greatest 0 q x F (λ t. ap not (eq-eqb (0 + q) p same)))
 
   others-kept : (ss : List Step) (i : List ℕ) → OnPage (word-count fm) p ss → length i ≡ n * size fm → others (run (size fm) ss i) ≡ others i
   unfolding OnPage run
   others-kept [] i h l = refl
   others-kept (program q w g low high ∷ ss) i h l =
-      others-kept ss (after (size fm) (program q w g low high) i) (h .2) (length-after (size fm) (program q w g low high) i ∙ l)
-      ∙ program-kept q w g low high i (h .0) (h .1) l
+      others-kept ss (after (size fm) (program q w g low high) i) (h .3) (length-after (size fm) (program q w g low high) i ∙ l)
+      ∙ program-kept q w g low high i (h .0) (h .1) (h .2) l
   others-kept (erase q ∷ ss) i h l = absurd h
 
   -- ---- the renewals of the pages but one
@@ -113,11 +120,8 @@ module _ (fm : Form) (n p : ℕ) (inside : p < n) where
   picked-others : (i : List ℕ) → picked-steps fm n (picked (other p) n) i ≡ others i
   unfolding picked-steps other
   picked-others i =
-      renewals-agree (fm .edition) (λ k s. getD (picked (other p) n) k false) (λ j s. other p j) 0 (first-pages fm n i)
-      (λ j g.
-      let z : 0 + j ≡ j = omega arith in
-      let l : j < n = omega (arith, length-map (cut (size fm) n i) (page (fm .edition)), cut-length (size fm) n i) in
-      subst (λ (x : ℕ). getD (picked (other p) n) x false ≡ other p x) (sym z) (picked-at (other p) n j l))
+      picked-agree (fm .edition) (λ k s. getD (picked (other p) n) k false) (λ j s. other p j) (first-pages fm n i)
+      (λ j g. picked-at (other p) n j (omega (arith, length-map (cut (size fm) n i) (page (fm .edition)), cut-length (size fm) n i)))
 
 -- ---- what a move leaves: the page is filled, and then the others are renewed
 
@@ -128,7 +132,7 @@ pub moved : (fm : Form) (p o n : ℕ) {allowance left rest : ℕ} (cs : List Set
 unfolding move-steps
 moved fm p o n {allowance} {left} {rest} cs {i} {j} {k} picks inside sized few filled is renewed =
     let ss = take allowance (fill-steps p o cs) in
-    let same : picked-steps fm n picks j ≡ renewals (fm .edition) (λ j s. other p j) 0 (first-pages fm n i) =
+    let same : picked-steps fm n picks j ≡ renew-picked (fm .edition) (λ j s. other p j) (first-pages fm n i) =
     ap (λ (xs : List Bool). picked-steps fm n xs j) is ∙ picked-others fm n p inside j ∙ ap (others fm n p inside) (filled .image)
     ∙ others-kept fm n p inside ss i (on-take (word-count fm) p allowance (fill-steps p o cs) (on-fill (word-count fm) p o cs (omega arith))) sized in
     part-then filled (subst (λ (xs : List Step). Part fm left xs j k rest) same renewed)

@@ -2,8 +2,8 @@
 use mathlib.Core.Path.{_≡_, sym, ap, _∙_}
 use mathlib.Core.Option.{none, some}
 use borrow.Author.Needs.{needs}
-use Rattle.rules.specs.Store.{last-of}
-use Rattle.rules.specs.Call.{or-value, not-held-value}
+use Rattle.rules.specs.Store.{last-of, or-value}
+use Rattle.rules.specs.Call.{not-held-value}
 use Rattle.settings.specs.Held.{as-option}
 use Rattle.reading.proofs.value_or_blank.Statement.{statement}
 use Rattle.reading.proofs.value_or_blank.Tie as tie

@@ -1,0 +1,236 @@
+-- The wear that a recovery gives a page, and that a page which lost its wear comes back with the greatest. Assumes nothing.
+use Prim.Native.Nat.{ℕ, zero, suc, _+_, _≤_, _<_, min}
+use mathlib.Core.Path.{_≡_, refl, sym, ap, ap₂, _∙_, subst}
+use mathlib.Core.Logic.{_⊎_, inl, inr, ⊎-elim}
+use mathlib.Core.List.{List, [], _∷_, _++_, append-assoc}
+use mathlib.Core.Option.{none, some}
+use native.Mathlib.Omega.{arith}
+use lib.ListN.{length, length-map, getD}
+use lib.Seq.{getD-at}
+use lib.Dec.{leb}
+use borrow.Author.Tests.{leb-true, leb-false}
+use Rattle.rules.specs.Flash.{Step, erase, run}
+use Rattle.rules.specs.Word.{Word}
+use Rattle.rules.specs.Page.{Form, word-count, size, wear-part, wear-in, cleared, bad, Page, page, state-by, state}
+use Rattle.rules.specs.Store.{states, base, used, is-cleared, count, or-value, Candidate, nobody, better, offered, least-worn, index}
+use Rattle.rules.specs.Steps.{renew, renewed-wear, greatest-wear, renew-picked, unclean, recovery-steps, taken}
+use Rattle.rules.specs.Call.{Roomy, cut, page-count, pages, store-number, OK}
+use Rattle.rules.proofs.Truth.{by-cases}
+use Rattle.rules.proofs.Settings.{none-some}
+use Rattle.rules.proofs.Cut.{cut-length, pages-long}
+use Rattle.rules.proofs.Phases.{Pages, store-run, store-run-append}
+use Rattle.rules.proofs.Told.{told, told-amid}
+use Rattle.rules.proofs.Pages.{cleared-is, fresh-cleared}
+use Rattle.rules.proofs.Stores.{cleared-or-not, taken-at}
+use Rattle.rules.proofs.Renewing.{fresh, renew-run}
+use Rattle.rules.proofs.Wears.{fresh-wear, beside, Erased, erased-at, is-erased}
+use Rattle.rules.proofs.Healthy.{recovery-part}
+use Rattle.promise.specs.Calls.{Image}
+use Rattle.promise.specs.History.{recovery-of}
+use Rattle.promise.specs.Corollaries.{page-at, Rewears, each-wear-follows-the-rule, Greatest, PassedOver, ComesBack}
+use Rattle.promise.specs.Corollaries.{a-lost-wear-comes-back-greatest}
+
+-- ---- a page at its index
+
+page-told : (edition : ℕ) (F : Pages) (p : ℕ) → p < length F → page-at p (told edition F) ≡ page edition (getD F p [])
+page-told edition [] p l = absurd (omega arith)
+page-told edition (x ∷ F) zero l = refl
+page-told edition (x ∷ F) (suc p) l = page-told edition F p (omega arith)
+
+page-amid : (edition : ℕ) (f : Pages) (x : List Word) (r : Pages) (p : ℕ) → length f ≡ p → page-at p (told edition (f ++ x ∷ r)) ≡ page edition x
+page-amid edition f x r p e =
+    ap (page-at p) (told-amid edition f x r) ∙ getD-at (told edition f) (page edition x) (told edition r) _ p (length-map f (page edition) ∙ e)
+
+page-beside : (edition : ℕ) (f : Pages) (x y : List Word) (r : Pages) (q : ℕ) → (q ≡ length f → ⊥)
+    → page-at q (told edition (f ++ x ∷ r)) ≡ page-at q (told edition (f ++ y ∷ r))
+page-beside edition f x y r q ne =
+    ap (page-at q) (told-amid edition f x r)
+    ∙ beside (told edition f) (page edition x) (page edition y) (told edition r) q _ (λ e. ne (e ∙ length-map f (page edition)))
+    ∙ ap (page-at q) (sym (told-amid edition f y r))
+
+wear-upto : (q n : ℕ) (ps : List Page) → page-at q ps .wear ≡ some n → n ≤ greatest-wear ps
+unfolding greatest-wear or-value
+wear-upto q n [] e = none-some refl e
+wear-upto zero n (p ∷ ps) e = let z : or-value (p .wear) 0 ≡ n = rw e in omega arith
+wear-upto (suc q) n (p ∷ ps) e = let rest = wear-upto q n ps e in omega arith
+
+-- ---- cleared pages
+
+-- where one is
+abbrev ClearedAt : List Page → ℕ → ℕ → Type 0
+ClearedAt ps q n = page-at q ps .state ≡ cleared n
+
+bad-cleared : {A : Type 0} {n : ℕ} → bad ≡ cleared n → A
+bad-cleared e = let z : _≡_ {A = ℕ} 0 1 = cc in absurd (omega arith)
+
+wear-cleared : (edition : ℕ) (F : Pages) (q n : ℕ) → ClearedAt (told edition F) q n → page-at q (told edition F) .wear ≡ some n
+unfolding page wear-in wear-part
+wear-cleared edition [] q n e = bad-cleared e
+wear-cleared edition (x ∷ F) zero n e = let c = cleared-is edition x n e in rw (c .form, c .wear, c .worn)
+wear-cleared edition (x ∷ F) (suc q) n e = wear-cleared edition F q n e
+
+somewhere : (ps : List Page) → 1 ≤ count is-cleared (states ps) → (q : ℕ) × (n : ℕ) × ClearedAt ps q n
+unfolding count states
+somewhere [] h = absurd (omega arith)
+somewhere (p ∷ ps) h =
+    ⊎-elim (λ (c : (n : ℕ) × (p .state ≡ cleared n)). (0, c .0, c .1))
+    (λ c. let rest = somewhere ps (let l = rw (c .0) at h in omega arith) in (suc (rest .0), rest .1, rest .2)) (cleared-or-not (p .state))
+
+-- of two, one is elsewhere
+elsewhere : (k : ℕ) (ps : List Page) → 2 ≤ count is-cleared (states ps) → (q : ℕ) × (n : ℕ) × (q ≡ k → ⊥) × ClearedAt ps q n
+unfolding count states
+elsewhere k [] h = absurd (omega arith)
+elsewhere zero (p ∷ ps) h =
+    let rest = somewhere ps (by-cases (is-cleared (p .state)) (λ t. let l = rw t at h in omega arith) (λ t. let l = rw t at h in omega arith)) in
+    (suc (rest .0), rest .1, λ e. omega arith, rest .2)
+elsewhere (suc k) (p ∷ ps) h =
+    ⊎-elim (λ (c : (n : ℕ) × (p .state ≡ cleared n)). (0, c .0, λ e. omega arith, c .1))
+    (λ c.
+    let rest = elsewhere k ps (let l = rw (c .0) at h in omega arith) in
+    (suc (rest .0), rest .1, λ e. rest .2 (omega arith), rest .3))
+    (cleared-or-not (p .state))
+
+-- ---- the page that is taken is worn least
+
+unfoldable AtMost : ℕ → Candidate → Type 0
+AtMost n nobody = ⊥
+AtMost n (Candidate.page k m) = m ≤ n
+
+better-first : (k n : ℕ) (c : Candidate) → AtMost n (better (Candidate.page k n) c)
+unfolding AtMost better
+better-first k n nobody = omega arith
+better-first k n (Candidate.page j m) = by-cases (leb n m) (λ t. rw t (omega arith)) (λ t. let l = leb-false n m t in rw t (omega arith))
+
+better-second : (n : ℕ) (b c : Candidate) → AtMost n c → AtMost n (better b c)
+unfolding AtMost better
+better-second n nobody c h = h
+better-second n (Candidate.page k m) nobody h = absurd h
+better-second n (Candidate.page k m) (Candidate.page j o) h =
+    by-cases (leb m o) (λ t. let l = leb-true m o t in rw t (omega arith)) (λ t. rw t h)
+
+least-least : (k : ℕ) (ps : List Page) (q n : ℕ) → ClearedAt ps q n → AtMost n (least-worn k (states ps))
+unfolding least-worn offered states
+least-least k [] q n e = bad-cleared e
+least-least k (p ∷ ps) zero n e = rw e (better-first k n (least-worn (suc k) (states ps)))
+least-least k (p ∷ ps) (suc q) n e = better-second n (offered k (p .state)) (least-worn (suc k) (states ps)) (least-least (suc k) ps q n e)
+
+-- so one that is worn more than every other page is passed over while another is cleared
+passed-over : (edition : ℕ) (F : Pages) (p w : ℕ) → ClearedAt (told edition F) p w → Greatest p w (told edition F) → PassedOver p (told edition F)
+unfolding taken index AtMost
+passed-over edition F p w is most two e =
+    let ps = told edition F in
+    let o = elsewhere p ps two in
+    let less : o .1 < w = most (o .0) (o .1) (o .2) (wear-cleared edition F (o .0) (o .1) (o .3)) in
+    let t = taken-at 0 ps (λ z. omega arith) in
+    let least : t .wear ≤ o .1 = subst (AtMost (o .1)) (t .place) (least-least 0 ps (o .0) (o .1) (o .3)) in
+    let here : length (t .front) ≡ p = (let i : 0 + length (t .front) ≡ p = sym (ap index (t .place)) ∙ e in omega arith) in
+    let it : page-at p ps ≡ t .page = ap (page-at p) (t .form) ∙ getD-at (t .front) (t .page) (t .rest) _ p here in
+    let same : cleared (t .wear) ≡ cleared w = sym (t .is-cleared) ∙ ap (λ (q : Page). q .state) (sym it) ∙ is in
+    let worn : t .wear ≡ w = cc in
+    omega arith
+
+-- ---- the wear that a recovery gives a page
+
+module _ (fm : Form) (roomy : Roomy fm) (i : Image) (ok : store-number fm i ≡ OK) where
+  abbrev edition : ℕ
+  edition = fm .edition
+
+  -- the words of a page behind the first
+  abbrev k′ : ℕ
+  k′ = suc (suc (fm .slot-count))
+
+  -- the pages as words
+  abbrev F : Pages
+  F = cut (size fm) (page-count fm i) i
+
+  module _ (before : List Step) (p : ℕ) (after : List Step) (e : recovery-of fm i ≡ before ++ erase p ∷ after) where
+    erased : Erased edition k′ F before p after
+    unfolding recovery-steps renew-picked pages
+    erased = erased-at edition k′ (λ k s. unclean (base (states (pages fm i))) s) (greatest-wear (pages fm i)) [] F refl before p after e .1
+
+    -- the pages with x in its place, the others as they are by then
+    abbrev with-page : List Word → Pages
+    with-page x = erased .front ++ x ∷ erased .rest
+
+    abbrev wear : ℕ
+    wear = renewed-wear (greatest-wear (told edition (with-page (erased .here)))) (wear-in edition (erased .here))
+
+    steps : recovery-of fm i ≡ before ++ renew edition p wear ++ erased .behind
+    unfolding renew
+    steps =
+        e ∙ ap (λ (ss : List Step). before ++ erase p ∷ ss) (erased .gets)
+        ∙ sym (append-assoc before (renew edition p wear) (erased .behind))
+
+    -- the pages just before its erase, and when its wear word is whole
+    pages-then : pages fm (run (size fm) before i) ≡ told edition (with-page (erased .here))
+    pages-then = recovery-part fm roomy i ok before (erase p ∷ after) e ∙ ap (told edition) (erased .by-then)
+
+    pages-next : pages fm (run (size fm) (before ++ renew edition p wear) i) ≡ told edition (with-page (fresh edition k′ wear))
+    pages-next =
+        recovery-part fm roomy i ok (before ++ renew edition p wear) (erased .behind) steps
+        ∙ ap (told edition) (store-run-append (word-count fm) before (renew edition p wear) F
+        ∙ ap (store-run (word-count fm) (renew edition p wear)) (erased .by-then)
+        ∙ ap (λ (k : ℕ). store-run (word-count fm) (renew edition k wear) (with-page (erased .here))) (sym (erased .place))
+        ∙ renew-run edition k′ (erased .front) (erased .here) (erased .rest) wear)
+
+    own : page-at p (pages fm i) ≡ page edition (erased .here)
+    unfolding pages
+    own = page-told edition F p (erased .inside) ∙ ap (page edition) (erased .as-it-was)
+
+    rewears : Rewears fm i before p after
+    unfolding page
+    rewears =
+        record {
+          wear = wear;
+          rest = erased .behind;
+          wear-word-next = erased .gets;
+          as-it-was = ap (page-at p) pages-then ∙ page-amid edition (erased .front) (erased .here) (erased .rest) p (erased .place) ∙ sym own;
+          by-the-rule = ap₂ renewed-wear (ap greatest-wear (sym pages-then)) (ap (λ (q : Page). q .wear) (sym own));
+        }
+
+    -- of a page that has no wear
+    module _ (lost : page-at p (pages fm i) .wear ≡ none) where
+      one-more : wear ≡ min (greatest-wear (told edition (with-page (erased .here))) + 1) 65535
+      unfolding renewed-wear or-value page
+      one-more = let e = sym (ap (λ (q : Page). q .wear) own) ∙ lost in rw e
+
+      wears-most : let ps = told edition (with-page (fresh edition k′ wear)) in (wear ≡ 65535) ⊎ (Greatest p wear ps × PassedOver p ps)
+      unfolding page
+      wears-most =
+          let g = greatest-wear (told edition (with-page (erased .here))) in
+          let q = fresh edition k′ wear in
+          let w = one-more in
+          by-cases (leb 65535 (g + 1)) (λ t. inl (let l = leb-true 65535 (g + 1) t in omega arith))
+          (λ t.
+          let l = leb-false 65535 (g + 1) t in
+          let most : Greatest p wear (told edition (with-page q)) =
+          λ x m ne e. (let b = page-beside edition (erased .front) (erased .here) q (erased .rest) x (λ z. ne (z ∙ erased .place)) in
+          let h = wear-upto x m (told edition (with-page (erased .here))) (ap (λ (q : Page). q .wear) b ∙ e) in
+          omega arith) in
+          let it = ap (λ (q : Page). q .state) (page-amid edition (erased .front) q (erased .rest) p (erased .place)) ∙ fresh-cleared edition wear k′ in
+          inr (most, passed-over edition (with-page q) p wear it most))
+
+      comes-back : ComesBack fm i p
+      unfolding page
+      comes-back =
+          let q = fresh edition k′ wear in
+          let it = ap (λ (q : Page). q .wear) (page-amid edition (erased .front) q (erased .rest) p (erased .place)) ∙ fresh-wear edition k′ wear in
+          record { before = before; after = erased .behind; wear = wear; steps = steps; wears-most = rw pages-next (it, wears-most) }
+
+  -- and such a page is erased
+  lost-erased : (p : ℕ) → p < page-count fm i → page-at p (pages fm i) .wear ≡ none
+      → (before : List Step) × (after : List Step) × (recovery-of fm i ≡ before ++ erase p ∷ after)
+  unfolding recovery-steps renew-picked pages page state state-by unclean used is-cleared
+  lost-erased p inside lost =
+      let ps = pages fm i in
+      let it = page-told edition F p (omega (arith, cut-length (size fm) (page-count fm i) i, inside)) in
+      let none-there = sym (ap (λ (q : Page). q .wear) it) ∙ lost in
+      let is-bad : page-at p ps .state ≡ bad = ap (λ (q : Page). q .state) it ∙ rw none-there in
+      is-erased edition (λ k s. unclean (base (states ps)) s) (greatest-wear ps) 0 ps p p (record { state = bad; wear = none; slots = [] })
+      (omega (arith, pages-long fm i, inside)) (omega arith) (rw is-bad)
+
+pub wear-follows : each-wear-follows-the-rule
+wear-follows fm roomy i ok before p after e = rewears fm roomy i ok before p after e
+
+pub lost-wear : a-lost-wear-comes-back-greatest
+lost-wear fm roomy i ok p inside lost = let s = lost-erased fm roomy i ok p inside lost in comes-back fm roomy i ok (s .0) p (s .1) (s .2) lost
