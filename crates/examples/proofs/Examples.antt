@@ -12,7 +12,7 @@ use Rattle.rules.specs.Page.{wear-part, opening-part, done-part, slots, is-wear
 use Rattle.rules.specs.Page.{state-by, state, page}
 use Rattle.rules.specs.Store.{states, order₂, base, used, is-cleared, is-open, order, add-order, used-orders, greatest, active-order, is-active}
 use Rattle.rules.specs.Store.{index-of, active-index, add-page, used-pages, insert, oldest-first, add-record, records, all-records, journal, or-else}
-use Rattle.rules.specs.Store.{last-of, value, put, put-all, settings, held, past, free-slot, slots-at, active-slots, count, better, offered, least-worn, index}
+use Rattle.rules.specs.Store.{last-of, value, put, put-all, settings, held, past, free-slot, active-slots, count, better, offered, least-worn, index}
 use Rattle.rules.specs.Store.{or-value}
 use Rattle.rules.specs.Steps.{way, way-steps, new-page, next-order, fill-steps, other, renew, renew-all, format-steps, renewed-wear, greatest-wear}
 use Rattle.rules.specs.Steps.{renewals, renew-each, renew-picked, unclean, recovery-steps, append-steps, taken, open-steps, but, copy-steps, move-steps}
@@ -38,7 +38,7 @@ unfolding same holds bytes told said yes-no did done-by laid laid-all numbers ro
     third checked wear-word number-word opening-word done-word record-word slot-condition word-steps words wear-part opening-part done-part slots
     is-wear wear-in is-opening order-in is-done all-blank state-after-wear state-by state page states order₂ base used is-cleared is-open order
     add-order used-orders greatest active-order is-active index-of active-index add-page used-pages insert oldest-first add-record records all-records
-    journal or-else last-of value put put-all settings held past free-slot slots-at active-slots count better offered least-worn index renew renew-all
+    journal or-else last-of value put put-all settings held past free-slot active-slots count better offered least-worn index renew renew-all
     format-steps renewed-wear greatest-wear renewals renew-each renew-picked unclean recovery-steps append-steps taken open-steps but copy-steps
     move-steps has-free-slot is-value write-steps first-of store-rows blank-read-rows read-rows write-rows way way-steps new-page next-order
     fill-steps other cut page-count pages wrong-size no-store among repeats all-used damaged is-unclean wrong-address is-held no-room order-end

@@ -57,8 +57,8 @@ done-by (program p w h low high ∷ ss) = low ∷ high ∷ done-by ss
 done-by (erase p ∷ ss) = p ∷ done-by ss
 
 -- a page as far as a recovery looks at it
-abbrev pub with-wear : State → Option ℕ → Page
-with-wear s wear = record { state = s; wear = wear; slots = [] }
+abbrev pub page-with : State → Option ℕ → Page
+page-with s wear = record { state = s; wear = wear; slots = [] }
 
 -- bytes of 255
 abbrev pub empty-flash : ℕ → List ℕ
@@ -107,10 +107,10 @@ rows two-pages =
     ∷ row (did (write this-form 5 65 2 two-pages)) (0 ∷ 2 ∷ 1 ∷ [])
     ∷ row (said (read this-form 5 (write this-form 5 65 2 two-pages .image))) (0 ∷ 65 ∷ [])
     -- X8. Page 0 open with wear 7, page 1 receiving with wear 9, pages 2 and 3 without a wear: recovery gives 10, 11 and 12.
-    ∷ row (done-by (recovery-steps 1 (with-wear (open₁ 0) (some 7) ∷ with-wear receiving (some 9) ∷ with-wear bad none ∷ with-wear bad none ∷ [])))
+    ∷ row (done-by (recovery-steps 1 (page-with (open₁ 0) (some 7) ∷ page-with receiving (some 9) ∷ page-with bad none ∷ page-with bad none ∷ [])))
     (1 ∷ 0x0A ∷ 0x00 ∷ 0x01 ∷ 0x15 ∷ 2 ∷ 0x0B ∷ 0x00 ∷ 0x01 ∷ 0x14 ∷ 3 ∷ 0x0C ∷ 0x00 ∷ 0x01 ∷ 0x15 ∷ [])
     -- With wear 65,534 on page 0 and none on the others: each of them gets 65,535.
-    ∷ row (done-by (recovery-steps 1 (with-wear (open₁ 0) (some 65534) ∷ with-wear bad none ∷ with-wear bad none ∷ [])))
+    ∷ row (done-by (recovery-steps 1 (page-with (open₁ 0) (some 65534) ∷ page-with bad none ∷ page-with bad none ∷ [])))
     (1 ∷ 0xFF ∷ 0xFF ∷ 0x01 ∷ 0x07 ∷ 2 ∷ 0xFF ∷ 0xFF ∷ 0x01 ∷ 0x07 ∷ [])
     ∷ []
 

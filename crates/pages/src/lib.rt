@@ -1,11 +1,12 @@
 // The state of one page (P4 to P8). A page is lent as the part of the image that it is.
 use words::Word;
 ghost use mathlib.Core.Path.{_≡_};
-ghost use Prim.Native.Nat.{_+_, _*_, _/_, _≤_, _<_, min};
+ghost use Prim.Native.Nat.{_*_, _/_, _≤_, _<_};
 ghost use lib.ListN.{length};
 ghost use Rattle.rules.specs.Word.{words};
 ghost use Rattle.rules.specs.Page.{size, is-wear, wear-in, is-opening, order-in, is-done, all-blank, state-after-wear, state};
 ghost use Rattle.rules.specs.Store.{order, or-value, free-slot};
+ghost use Rattle.rules.specs.Steps.{one-more};
 ghost use Rattle.words.specs.Read.{as-word};
 ghost use Rattle.pages.specs.Read.{as-state, as-form, Lawful};
 
@@ -162,7 +163,7 @@ pub fn wear_or(page: &[u8], edition: u8, other: u16) -> u16
 
 // C4. New wear: one more, 65,535 at most.
 pub fn one_more(wear: u16) -> u16
-    ensures { λ r. ⌜ r ≡ min (wear + 1) 65535 ⌝ }
+    ensures { λ r. ⌜ r ≡ one-more wear ⌝ }
 {
     if wear == 65535 {
         return 65535;

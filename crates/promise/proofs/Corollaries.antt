@@ -14,7 +14,7 @@ use Rattle.rules.specs.Page.{Form, size, wear-part, opening-part, done-part, sl
 use Rattle.rules.specs.Page.{state-after-wear, state-by, state, page}
 use Rattle.rules.specs.Store.{states, order₂, base, used, is-cleared, is-open, order, add-order, used-orders, greatest, active-order, is-active}
 use Rattle.rules.specs.Store.{index-of, active-index, add-page, used-pages, insert, oldest-first, add-record, records, all-records, journal, or-else}
-use Rattle.rules.specs.Store.{last-of, value, put, put-all, settings, held, past, free-slot, slots-at, active-slots, count, or-value}
+use Rattle.rules.specs.Store.{last-of, value, put, put-all, settings, held, past, free-slot, active-slots, count, or-value}
 use Rattle.rules.specs.Steps.{way, way-steps, new-page, next-order, fill-steps, other, renew, renew-all, format-steps, unclean, append-steps}
 use Rattle.rules.specs.Steps.{has-free-slot, is-value, write-steps}
 use Rattle.rules.specs.Call.{Formatted, Stepped, stepped, write, first-of, store-rows, blank-read-rows, read-rows, write-rows, this-form, Roomy}
@@ -95,7 +95,7 @@ unfolding with-second laid-out laid laid-all offset aim after run zeros check so
     opening-word record-word slot-condition word-steps words wear-part opening-part done-part slots is-wear wear-in is-opening order-in is-done
     all-blank state-after-wear state-by state page states order₂ base used is-cleared is-open order add-order used-orders greatest active-order
     is-active index-of active-index add-page used-pages insert oldest-first add-record records all-records journal or-else last-of value put put-all
-    settings held past free-slot slots-at active-slots count renew renew-all format-steps unclean append-steps has-free-slot is-value write-steps
+    settings held past free-slot active-slots count renew renew-all format-steps unclean append-steps has-free-slot is-value write-steps
     first-of store-rows blank-read-rows read-rows write-rows way way-steps new-page next-order fill-steps other cut page-count pages wrong-size
     no-store among repeats all-used damaged is-unclean wrong-address is-held no-room order-end store-number write-number blank-read-number
     read-number accepted format or-value read bytes-at

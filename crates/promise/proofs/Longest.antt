@@ -8,13 +8,13 @@ use mathlib.Core.Option.{some}
 use native.Mathlib.Omega.{arith}
 use lib.ListN.{length, take, drop, length-append, length-map, replicate}
 use lib.Seq.{take-append-seam, drop-append-seam}
-use lib.Dec.{leb}
+use lib.Dec.{leb, ltb}
 use borrow.Author.Tests.{le-leb, eq-eqb, ne-eqb}
 use Rattle.rules.specs.Word.{Word, word, words, wear-word, opening-word, zeros, check, checked, sound, blank, condition, slot-condition, low16, third}
 use Rattle.rules.specs.Word.{record-word}
 use Rattle.rules.specs.Page.{size, blank-word, open₁, Page, page, state, slots}
 use Rattle.rules.specs.Store.{states, order₂, base, used, is-cleared, order, greatest, used-pages, add-page, active-order, active-index, index-of}
-use Rattle.rules.specs.Store.{is-active, slots-at, active-slots, past, free-slot, count, oldest-first, Setting, setting, add-record, records}
+use Rattle.rules.specs.Store.{is-active, page-at, active-slots, past, free-slot, count, oldest-first, Setting, setting, add-record, records}
 use Rattle.rules.specs.Store.{all-records, journal, or-else, last-of, put, put-all, settings, value}
 use Rattle.rules.specs.Steps.{unclean, but, move-records, has-free-slot, is-value, taken, next-order, new-page, way, way-steps, write-steps}
 use Rattle.rules.specs.Call.{this-form, page-count, pages, cut, repeats, is-unclean, is-held, no-room, order-end, write-number, OK}
@@ -142,7 +142,7 @@ record Stack (m : ℕ) (J : List Setting) (F : Pages) : Type 0 where
 
 -- one more, of the next order
 on-top : {m : ℕ} {F : Pages} → Stack m [] F → (pg : List Word) → state 1 pg ≡ open₁ m → length pg ≡ 256 → Stack (suc m) (records (slots pg)) (pg ∷ F)
-unfolding down page states base order₂ used used-pages add-page orders order count is-cleared unclean AllLength Below
+unfolding down page states base greatest order₂ used used-pages add-page orders order count is-cleared unclean AllLength Below
 on-top {m} {F} t pg s l =
     let u : leb 0 m ≡ true = le-leb 0 m (omega arith) in
     let e = t .one-cleared in
@@ -161,7 +161,7 @@ on-top {m} {F} t pg s l =
     }
 
 older : (m : ℕ) → Stack m [] (olds m)
-unfolding olds down page states base order₂ used used-pages add-page orders oldest-first all-records count is-cleared unclean AllLength old-page slots
+unfolding olds down page states base greatest order₂ used used-pages add-page orders oldest-first all-records count is-cleared unclean AllLength old-page slots
 older zero =
     let s = fresh-cleared 1 1 255 in
     record { is-base = rw s; has-orders = rw s; has-journal = rw s; one-cleared = rw s; all-clean = rw s; long = (refl, tt); many = refl }
@@ -255,10 +255,14 @@ module _ (m : ℕ) (few : m ≤ 30) where
   newest = active-is 1 256 0 (m ∷ down m) store (good-ordered c all store good) ∙ down-greatest m
 
   -- the full page is the active one
+  active-first : active-index (states ps) ≡ 0
+  unfolding active-index index-of is-active states page order used
+  active-first = rw (newest, stack .is-base, full-state, le-leb 0 m (omega arith), eq-eqb m m refl)
+
   none-free : has-free-slot ps ≡ false
-  unfolding has-free-slot active-slots active-index index-of is-active slots-at states page order used full-page slots
+  unfolding has-free-slot active-slots page full-page slots
   none-free =
-      rw (newest, stack .is-base, full-state, le-leb 0 m (omega arith), eq-eqb m m refl, computed .none-free, computed .many)
+      ap (λ (k : ℕ). ltb (free-slot (page-at k ps .slots)) (length (page-at k ps .slots))) active-first ∙ rw (computed .none-free, computed .many)
 
   accepted : write-number this-form 0 1 image ≡ OK
   unfolding is-value no-room is-held order-end

@@ -1,25 +1,26 @@
 -- The wear that a recovery gives a page, and that a page which lost its wear comes back with the greatest. Assumes nothing.
-use Prim.Native.Nat.{ℕ, zero, suc, _+_, _≤_, _<_, min}
+use Prim.Native.Nat.{ℕ, zero, suc, _+_, _≤_, _<_}
 use mathlib.Core.Path.{_≡_, refl, sym, ap, ap₂, _∙_, subst}
 use mathlib.Core.Logic.{_⊎_, inl, inr, ⊎-elim}
 use mathlib.Core.List.{List, [], _∷_, _++_, append-assoc}
 use mathlib.Core.Option.{none, some}
 use native.Mathlib.Omega.{arith}
-use lib.ListN.{length, length-map, getD}
+use lib.ListN.{length, length-map}
 use lib.Seq.{getD-at}
 use lib.Dec.{leb}
 use borrow.Author.Tests.{leb-true, leb-false}
 use Rattle.rules.specs.Flash.{Step, erase, run}
 use Rattle.rules.specs.Word.{Word}
 use Rattle.rules.specs.Page.{Form, word-count, size, wear-part, wear-in, cleared, bad, Page, page, state-by, state}
-use Rattle.rules.specs.Store.{states, base, used, is-cleared, count, or-value, Candidate, nobody, better, offered, least-worn, index}
-use Rattle.rules.specs.Steps.{renew, renewed-wear, greatest-wear, renew-picked, unclean, recovery-steps, taken}
+use Rattle.rules.specs.Store.{states, greatest, base, used, is-cleared, no-page, page-at, count, or-value, Candidate, nobody, better, offered, least-worn}
+use Rattle.rules.specs.Store.{index}
+use Rattle.rules.specs.Steps.{renew, one-more, renewed-wear, greatest-wear, renew-picked, unclean, recovery-steps, taken}
 use Rattle.rules.specs.Call.{Roomy, cut, page-count, pages, store-number, OK}
 use Rattle.rules.proofs.Truth.{by-cases}
 use Rattle.rules.proofs.Settings.{none-some}
 use Rattle.rules.proofs.Cut.{cut-length, pages-long}
 use Rattle.rules.proofs.Phases.{Pages, store-run, store-run-append}
-use Rattle.rules.proofs.Told.{told, told-amid}
+use Rattle.rules.proofs.Told.{told, told-amid, page-told}
 use Rattle.rules.proofs.Pages.{cleared-is, fresh-cleared}
 use Rattle.rules.proofs.Stores.{cleared-or-not, taken-at}
 use Rattle.rules.proofs.Renewing.{fresh, renew-run}
@@ -27,15 +28,10 @@ use Rattle.rules.proofs.Wears.{fresh-wear, beside, Erased, erased-at, is-erased
 use Rattle.rules.proofs.Healthy.{recovery-part}
 use Rattle.promise.specs.Calls.{Image}
 use Rattle.promise.specs.History.{recovery-of}
-use Rattle.promise.specs.Corollaries.{page-at, Rewears, each-wear-follows-the-rule, Greatest, PassedOver, ComesBack}
+use Rattle.promise.specs.Corollaries.{Rewears, each-wear-follows-the-rule, Greatest, PassedOver, ComesBack}
 use Rattle.promise.specs.Corollaries.{a-lost-wear-comes-back-greatest}
 
 -- ---- a page at its index
-
-page-told : (edition : ℕ) (F : Pages) (p : ℕ) → p < length F → page-at p (told edition F) ≡ page edition (getD F p [])
-page-told edition [] p l = absurd (omega arith)
-page-told edition (x ∷ F) zero l = refl
-page-told edition (x ∷ F) (suc p) l = page-told edition F p (omega arith)
 
 page-amid : (edition : ℕ) (f : Pages) (x : List Word) (r : Pages) (p : ℕ) → length f ≡ p → page-at p (told edition (f ++ x ∷ r)) ≡ page edition x
 page-amid edition f x r p e =
@@ -49,7 +45,7 @@ page-beside edition f x y r q ne =
     ∙ ap (page-at q) (sym (told-amid edition f y r))
 
 wear-upto : (q n : ℕ) (ps : List Page) → page-at q ps .wear ≡ some n → n ≤ greatest-wear ps
-unfolding greatest-wear or-value
+unfolding greatest-wear greatest or-value
 wear-upto q n [] e = none-some refl e
 wear-upto zero n (p ∷ ps) e = let z : or-value (p .wear) 0 ≡ n = rw e in omega arith
 wear-upto (suc q) n (p ∷ ps) e = let rest = wear-upto q n ps e in omega arith
@@ -190,16 +186,16 @@ module _ (fm : Form) (roomy : Roomy fm) (i : Image) (ok : store-number fm i ≡ 
 
     -- of a page that has no wear
     module _ (lost : page-at p (pages fm i) .wear ≡ none) where
-      one-more : wear ≡ min (greatest-wear (told edition (with-page (erased .here))) + 1) 65535
+      is-more : wear ≡ one-more (greatest-wear (told edition (with-page (erased .here))))
       unfolding renewed-wear or-value page
-      one-more = let e = sym (ap (λ (q : Page). q .wear) own) ∙ lost in rw e
+      is-more = let e = sym (ap (λ (q : Page). q .wear) own) ∙ lost in rw e
 
       wears-most : let ps = told edition (with-page (fresh edition k′ wear)) in (wear ≡ 65535) ⊎ (Greatest p wear ps × PassedOver p ps)
       unfolding page
       wears-most =
           let g = greatest-wear (told edition (with-page (erased .here))) in
           let q = fresh edition k′ wear in
-          let w = one-more in
+          let w = is-more in
           by-cases (leb 65535 (g + 1)) (λ t. inl (let l = leb-true 65535 (g + 1) t in omega arith))
           (λ t.
           let l = leb-false 65535 (g + 1) t in
@@ -226,7 +222,7 @@ module _ (fm : Form) (roomy : Roomy fm) (i : Image) (ok : store-number fm i ≡ 
       let it = page-told edition F p (omega (arith, cut-length (size fm) (page-count fm i) i, inside)) in
       let none-there = sym (ap (λ (q : Page). q .wear) it) ∙ lost in
       let is-bad : page-at p ps .state ≡ bad = ap (λ (q : Page). q .state) it ∙ rw none-there in
-      is-erased edition (λ k s. unclean (base (states ps)) s) (greatest-wear ps) 0 ps p p (record { state = bad; wear = none; slots = [] })
+      is-erased edition (λ k s. unclean (base (states ps)) s) (greatest-wear ps) 0 ps p p no-page
       (omega (arith, pages-long fm i, inside)) (omega arith) (rw is-bad)
 
 pub wear-follows : each-wear-follows-the-rule

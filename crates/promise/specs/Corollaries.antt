@@ -5,11 +5,11 @@ use mathlib.Core.Logic.{_⊎_}
 use mathlib.Core.Bool.{Bool, true, false}
 use mathlib.Core.List.{List, [], _∷_, _++_}
 use mathlib.Core.Option.{none, some}
-use lib.ListN.{length, getD, replicate}
+use lib.ListN.{length, replicate}
 use Rattle.rules.specs.Flash.{Step, program, erase, AllAllowed, bytes-at, run}
 use Rattle.rules.specs.Word.{word-steps, wear-word}
-use Rattle.rules.specs.Page.{Form, size, bad, Page, wear-place}
-use Rattle.rules.specs.Store.{states, base, is-cleared, count, used-orders, held}
+use Rattle.rules.specs.Page.{Form, size, Page, wear-place}
+use Rattle.rules.specs.Store.{states, base, is-cleared, page-at, count, used-orders, held}
 use Rattle.rules.specs.Steps.{renew, renewed-wear, greatest-wear, format-steps, Way, stay, append-to, open-at, move-to, taken, way}
 use Rattle.rules.specs.Call.{this-form, Roomy, held-limit, page-count, pages, wrong-size, store-number, repeats, all-used, write-number, OK}
 use Rattle.rules.specs.Call.{NOT-HELD, Reading, read, format}
@@ -73,9 +73,6 @@ another-write-wears-none = (fm : Form) (i : Image) (a v : ℕ) → moves (way a 
 -- "Which wear does a recovery give a page?" Whatever the image, whenever it erases a page: the page is as it was at the call, and the
 -- next two steps program its wear word, with one more than its wear or, if it has none, than the greatest in the image just before the
 -- erase; 65,535 at most.
-abbrev pub page-at : (index : ℕ) → List Page → Page
-page-at p ps = getD ps p (record { state = bad; wear = none; slots = [] })
-
 pub record Rewears (fm : Form) (i : Image) (before : List Step) (p : ℕ) (after : List Step) : Type 0 where
   pub wear : ℕ
   pub rest : List Step

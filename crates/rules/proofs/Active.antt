@@ -5,10 +5,11 @@ use mathlib.Core.Bool.{true, false}
 use mathlib.Core.List.{List, [], _∷_, _++_}
 use native.Mathlib.Omega.{arith}
 use lib.ListN.{length, length-map, replicate, length-replicate}
+use lib.Seq.{getD-append-seam}
 use borrow.Author.Tests.{ltb-true}
 use Rattle.rules.specs.Word.{Word}
 use Rattle.rules.specs.Page.{blank-word, is-wear, cleared, Page, page, state, slots}
-use Rattle.rules.specs.Store.{states, base, is-cleared, used-orders, greatest, active-order, active-index, active-slots, slots-at}
+use Rattle.rules.specs.Store.{states, base, is-cleared, used-orders, greatest, active-order, active-index, active-slots, no-page, page-at}
 use Rattle.rules.specs.Store.{is-active, index-of, used-pages, free-slot, count, index}
 use Rattle.rules.specs.Steps.{unclean, taken, has-free-slot}
 use Rattle.rules.specs.Call.{among, repeats}
@@ -18,7 +19,7 @@ use Rattle.rules.proofs.Told.{told, Parted, parted, Headed, headed, len
 use Rattle.rules.proofs.Pages.{cleared-is}
 use Rattle.rules.proofs.Slots.{FreeAt, free-at}
 use Rattle.rules.proofs.Stores.{length-states, orders, orders-used, greatest-among, greatest-upto, Under, upto-under, ActiveAt, active-at}
-use Rattle.rules.proofs.Stores.{taken-at, slots-amid, count-all, count-used}
+use Rattle.rules.proofs.Stores.{taken-at, count-all, count-used}
 
 -- A store whose used pages, of which there are some, have different orders: by its base order and those orders.
 pub record Ordered (edition k b : ℕ) (os : List ℕ) (F : Pages) : Type 0 where
@@ -60,10 +61,9 @@ module _ (edition k b : ℕ) (os : List ℕ) (F : Pages) (g : Ordered edition k 
   pub slots-active : active-slots (told edition F) ≡ slots (at-active .here)
   unfolding active-slots page
   slots-active =
-      ap (λ (x : ℕ). slots-at x (told edition F)) (active-place ∙ sym (length-map (at-active .front) (page edition)) ∙ ap length (at-active .front-told))
-      ∙ ap (slots-at (length (active .front))) (active .form)
-      ∙ slots-amid (active .front) (active .page) (active .rest)
-      ∙ ap (λ (p : Page). p .slots) (sym (at-active .here-told))
+      ap (λ (x : ℕ). page-at x (told edition F) .slots) (active-place ∙ sym (length-map (at-active .front) (page edition)) ∙ ap length (at-active .front-told))
+      ∙ ap (λ (ps : List Page). page-at (length (active .front)) ps .slots) (active .form)
+      ∙ ap (λ (p : Page). p .slots) (getD-append-seam (active .front) (active .page) (active .rest) no-page ∙ sym (at-active .here-told))
 
 module _ (edition m b : ℕ) (os : List ℕ) (F : Pages) (g : Ordered edition (suc (suc (suc m))) b os F) where
   -- the free slot of the active page

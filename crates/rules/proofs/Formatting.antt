@@ -6,7 +6,7 @@ use native.Mathlib.Omega.{arith}
 use lib.ListN.{replicate, length-replicate}
 use Rattle.rules.specs.Word.{Word, wear-word, opening-word}
 use Rattle.rules.specs.Page.{blank-word, open₁, cleared, Page, page, state, slots}
-use Rattle.rules.specs.Store.{states, base, order, order₂, used, used-pages, add-page, oldest-first, insert, records, all-records, put-all}
+use Rattle.rules.specs.Store.{states, base, greatest, order, order₂, used, used-pages, add-page, oldest-first, insert, records, all-records, put-all}
 use Rattle.rules.specs.Call.{among, repeats}
 use Rattle.rules.proofs.Words.{wear-sound, opening-sound, sound-light}
 use Rattle.rules.proofs.Pages.{AllLight, replicate-light, replicate-all-blank, fresh-cleared, wear-is-wear, opened-plain}
@@ -43,7 +43,7 @@ module _ (c : Frame) where
   )
 
   clear-base : (n : ℕ) → base (states (told e (clear-pages n))) ≡ 0
-  unfolding base states page order₂
+  unfolding base greatest states page order₂
   clear-base zero = refl
   clear-base (suc n) = rw (clear-state, clear-base n)
 
@@ -53,7 +53,7 @@ module _ (c : Frame) where
   clear-unused (suc n) = (rw clear-state, clear-unused n)
 
   pub format-good : (n : ℕ) → suc n ≡ c .pages → Good c [] (formatted e (slots-in c) n)
-  unfolding AllWhole AllLight page base states order order₂ used used-pages add-page orders oldest-first insert all-records slots repeats among put-all
+  unfolding AllWhole AllLight page base greatest states order order₂ used used-pages add-page orders oldest-first insert all-records slots repeats among put-all
   format-good n is =
       let two = c .two in
       let m = slots-in c in

@@ -12,7 +12,7 @@ use lib.Dec.{eqb, leb, ltb}
 use borrow.Author.Tests.{eqb-true, eqb-false, ltb-false, leb-true, leb-false, le-leb, not-false}
 use Rattle.rules.specs.Word.{Word}
 use Rattle.rules.specs.Page.{Form, word-count, size, State, cleared, open₁, open₂, receiving, bad, page}
-use Rattle.rules.specs.Store.{states, order₂, base, used, is-open, is-cleared, used-orders, used-pages, active-index, count}
+use Rattle.rules.specs.Store.{states, order₂, base, greatest, used, is-open, is-cleared, used-orders, used-pages, active-index, count}
 use Rattle.rules.specs.Steps.{format-steps, taken}
 use Rattle.rules.specs.Call.{page-count, cut, pages, wrong-size, no-store, repeats, all-used, damaged, is-unclean, store-number, OK}
 use Rattle.rules.proofs.Rows.{store-fails}
@@ -74,7 +74,7 @@ makes-base b bad e l = absurd (omega arith)
 
 -- the base order is that of a used page, if it is not 0
 base-used : (ss : List State) → (base ss ≡ 0) ⊎ (0 < count (used (base ss)) ss)
-unfolding base count
+unfolding base greatest count
 base-used [] = inl refl
 base-used (s ∷ ss) =
     let rest = base-used ss in

@@ -3,14 +3,15 @@ use Prim.Native.Nat.{ℕ, suc, _+_, _≤_, _<_, max}
 use mathlib.Core.Path.{_≡_, refl, sym, ap, _∙_, subst}
 use mathlib.Core.Logic.{_⊎_, inl, inr, ⊎-elim}
 use mathlib.Core.Bool.{Bool, true, false, cond, not, _||_}
-use mathlib.Core.List.{List, [], _∷_, _++_, append-nil, append-assoc}
+use mathlib.Core.List.{List, [], _∷_, _++_, map, map-append, append-nil, append-assoc}
 use native.Mathlib.Omega.{arith}
-use lib.ListN.{length}
+use lib.ListN.{length, getD, take}
+use lib.Seq.{take-suc}
 use lib.Dec.{eqb, leb}
 use borrow.Author.Tests.{le-leb, lt-leb, leb-true, leb-false, eqb-true, eqb-false, eq-eqb, ne-eqb}
 use Rattle.rules.specs.Page.{State, cleared, open₁, open₂, receiving, bad, Page}
 use Rattle.rules.specs.Store.{states, order₂, base, used, is-cleared, is-open, order, add-order, used-orders, greatest, is-active, index-of}
-use Rattle.rules.specs.Store.{add-page, used-pages, insert, oldest-first, Setting, records, all-records, slots-at, count, Candidate}
+use Rattle.rules.specs.Store.{add-page, used-pages, insert, oldest-first, Setting, records, all-records, count, Candidate}
 use Rattle.rules.specs.Store.{nobody, page, better, offered, least-worn}
 use Rattle.rules.specs.Steps.{unclean}
 use Rattle.rules.specs.Call.{among, repeats}
@@ -30,10 +31,23 @@ unfolding states
 states-append [] ys = refl
 states-append (p ∷ xs) ys = ap (λ (ss : List State). p .state ∷ ss) (states-append xs ys)
 
+pub greatest-append : (xs ys : List ℕ) → greatest (xs ++ ys) ≡ max (greatest xs) (greatest ys)
+unfolding greatest
+greatest-append [] ys = omega arith
+greatest-append (x ∷ xs) ys = let e = greatest-append xs ys in omega arith
+
+-- of one more, the greater of the two
+pub greatest-more : {A : Type 0} (f : A → ℕ) (l : List A) (i : ℕ) (d : A) → i < length l
+    → greatest (map f (take (suc i) l)) ≡ max (greatest (map f (take i l))) (f (getD l i d))
+unfolding greatest
+greatest-more f l i d h =
+    let e : max (f (getD l i d)) 0 ≡ f (getD l i d) = omega arith in
+    ap (λ (xs : List _). greatest (map f xs)) (take-suc l i d h) ∙ ap greatest (map-append f (take i l) (getD l i d ∷ []))
+    ∙ greatest-append (map f (take i l)) (f (getD l i d) ∷ []) ∙ ap (max (greatest (map f (take i l)))) e
+
 pub base-append : (xs ys : List State) → base (xs ++ ys) ≡ max (base xs) (base ys)
 unfolding base
-base-append [] ys = omega arith
-base-append (s ∷ xs) ys = let e = base-append xs ys in omega arith
+base-append xs ys = ap greatest (map-append order₂ xs ys) ∙ greatest-append (map order₂ xs) (map order₂ ys)
 
 pub used-pages-append : (b : ℕ) (xs ys : List Page) → used-pages b (xs ++ ys) ≡ used-pages b xs ++ used-pages b ys
 unfolding used-pages add-page
@@ -49,7 +63,7 @@ all-records-append (p ∷ xs) ys = rw (all-records-append xs ys) (sym (append-as
 
 -- the base of a store with a page in its midst
 pub base-amid : (f : List Page) (p : Page) (r : List Page) → base (states (f ++ p ∷ r)) ≡ max (base (states f)) (max (order₂ (p .state)) (base (states r)))
-unfolding base states
+unfolding base greatest states
 base-amid f p r = ap base (states-append f (p ∷ r)) ∙ base-append (states f) (p .state ∷ states r)
 
 -- ---- states and their use
@@ -164,11 +178,6 @@ used-amid b f p r u = used-pages-append b f (p ∷ r) ∙ rw u
 pub unused-amid : (b : ℕ) (f : List Page) (p : Page) (r : List Page) → used b (p .state) ≡ false → used-pages b (f ++ p ∷ r) ≡ used-pages b f ++ used-pages b r
 unfolding used-pages add-page
 unused-amid b f p r u = used-pages-append b f (p ∷ r) ∙ rw u
-
-pub slots-amid : (f : List Page) (p : Page) (r : List Page) → slots-at (length f) (f ++ p ∷ r) ≡ p .slots
-unfolding slots-at
-slots-amid [] p r = refl
-slots-amid (q ∷ f) p r = slots-amid f p r
 
 -- ---- the orders of the used pages
 

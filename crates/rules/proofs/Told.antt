@@ -1,12 +1,14 @@
 -- Pages of words, and what they say: a list of pages parted at one of them. Assumes nothing.
-use Prim.Native.Nat.{ℕ, suc}
-use mathlib.Core.Path.{_≡_, refl, ap, ap₂}
+use Prim.Native.Nat.{ℕ, zero, suc, _<_}
+use mathlib.Core.Path.{_≡_, refl, ap, ap₂, _∙_}
 use mathlib.Core.List.{List, [], _∷_, _++_, map, map-append, nil≢cons, head-eq-of-cons-eq, tail-eq-of-cons-eq}
 use native.Mathlib.Omega.{arith}
-use lib.ListN.{length}
+use lib.ListN.{length, getD}
 use Rattle.rules.specs.Word.{Word}
-use Rattle.rules.specs.Page.{Page, page}
-use Rattle.rules.proofs.Cut.{AllLength}
+use Rattle.rules.specs.Page.{Form, size, Page, page}
+use Rattle.rules.specs.Store.{page-at}
+use Rattle.rules.specs.Call.{cut, first-pages, page-in}
+use Rattle.rules.proofs.Cut.{AllLength, cut-length, cut-page}
 use Rattle.rules.proofs.Phases.{Pages}
 
 -- what the pages say
@@ -15,6 +17,16 @@ told edition F = map (page edition) F
 
 pub told-amid : (edition : ℕ) (f : Pages) (pg : List Word) (r : Pages) → told edition (f ++ pg ∷ r) ≡ told edition f ++ page edition pg ∷ told edition r
 told-amid edition f pg r = map-append (page edition) f (pg ∷ r)
+
+pub page-told : (edition : ℕ) (F : Pages) (p : ℕ) → p < length F → page-at p (told edition F) ≡ page edition (getD F p [])
+page-told edition [] p l = absurd (omega arith)
+page-told edition (x ∷ F) zero l = refl
+page-told edition (x ∷ F) (suc p) l = page-told edition F p (omega arith)
+
+-- of an image
+pub page-cut : (fm : Form) (n k : ℕ) (i : List ℕ) → k < n → page-at k (first-pages fm n i) ≡ page-in fm k i
+page-cut fm n k i l =
+    page-told (fm .edition) (cut (size fm) n i) k (omega (arith, cut-length (size fm) n i)) ∙ ap (page (fm .edition)) (cut-page (size fm) n k i l)
 
 -- where what the pages say is parted, the pages can be
 pub record Parted (edition : ℕ) (F : Pages) (fp : List Page) (p : Page) (rp : List Page) : Type 0 where

@@ -1,9 +1,9 @@
 -- The wear that a renewed page gets: it is by the greatest wear of all pages just before its erase. Assumes nothing.
-use Prim.Native.Nat.{ℕ, zero, suc, _+_, _≤_, _<_, min, max}
+use Prim.Native.Nat.{ℕ, zero, suc, _+_, _≤_, _<_, max}
 use mathlib.Core.Path.{_≡_, refl, sym, ap, ap₂, _∙_, subst}
 use mathlib.Core.Logic.{_⊎_, inl, inr, ⊎-elim}
 use mathlib.Core.Bool.{Bool, true}
-use mathlib.Core.List.{List, [], _∷_, _++_, append-assoc, nil≢cons, head-eq-of-cons-eq, tail-eq-of-cons-eq}
+use mathlib.Core.List.{List, [], _∷_, _++_, map, map-append, append-assoc, nil≢cons, head-eq-of-cons-eq, tail-eq-of-cons-eq}
 use mathlib.Core.Option.{Option, none, some}
 use native.Mathlib.Omega.{arith}
 use lib.ListN.{length, length-append, getD}
@@ -11,19 +11,15 @@ use lib.Seq.{append-snoc, set-append-seam, getD-set-other, getD-at}
 use Rattle.rules.specs.Flash.{Half, Step, program, erase}
 use Rattle.rules.specs.Word.{Word, word, wear-word, word-steps}
 use Rattle.rules.specs.Page.{wear-part, wear-in, State, Page, page, state, wear-place}
-use Rattle.rules.specs.Store.{or-value}
-use Rattle.rules.specs.Steps.{renew, renewed-wear, greatest-wear, Renewal, renewal, renewals, renew-each}
+use Rattle.rules.specs.Store.{greatest, or-value}
+use Rattle.rules.specs.Steps.{renew, one-more, renewed-wear, greatest-wear, Renewal, renewal, renewals, renew-each}
 use Rattle.rules.proofs.Truth.{by-cases}
 use Rattle.rules.proofs.Words.{wear-is}
 use Rattle.rules.proofs.Pages.{wear-is-wear}
 use Rattle.rules.proofs.Phases.{Pages, store-run, store-run-append}
 use Rattle.rules.proofs.Told.{told, told-amid}
+use Rattle.rules.proofs.Stores.{greatest-append}
 use Rattle.rules.proofs.Renewing.{fresh, next-length, renew-run, rest-steps}
-
-pub greatest-append : (xs ys : List Page) → greatest-wear (xs ++ ys) ≡ max (greatest-wear xs) (greatest-wear ys)
-unfolding greatest-wear
-greatest-append [] ys = omega arith
-greatest-append (p ∷ xs) ys = let rest = greatest-append xs ys in omega arith
 
 pub each-append : (edition : ℕ) (rs qs : List Renewal) → renew-each edition (rs ++ qs) ≡ renew-each edition rs ++ renew-each edition qs
 unfolding renew-each
@@ -39,27 +35,23 @@ fresh-wear edition k′ n = rw (wear-is-wear edition n, wear-is edition n)
 
 -- ---- the greatest by then
 
--- one more, 65,535 at most
-abbrev capped : ℕ → ℕ
-capped n = min (n + 1) 65535
-
-capped-max : (a b : ℕ) → capped (max a b) ≡ max (capped a) (capped b)
-capped-max a b = omega arith
+one-more-max : (a b : ℕ) → one-more (max a b) ≡ max (one-more a) (one-more b)
+one-more-max a b = omega arith
 
 -- a renewed page counts no less than it did
-grows : (g : ℕ) (wear : Option ℕ) → capped (or-value wear 0) ≤ capped (renewed-wear g wear)
+grows : (g : ℕ) (wear : Option ℕ) → one-more (or-value wear 0) ≤ one-more (renewed-wear g wear)
 unfolding renewed-wear or-value
 grows g none = omega arith
 grows g (some n) = omega arith
 
-same-renewed : (g h : ℕ) (wear : Option ℕ) → capped g ≡ capped h → renewed-wear g wear ≡ renewed-wear h wear
+same-renewed : (g h : ℕ) (wear : Option ℕ) → one-more g ≡ one-more h → renewed-wear g wear ≡ renewed-wear h wear
 unfolding renewed-wear or-value
 same-renewed g h none e = e
 same-renewed g h (some n) e = refl
 
 -- g gives the same new wear as the greatest of the pages: it is that, or both have reached the end
 abbrev pub Tops : (edition g : ℕ) → Pages → Type 0
-Tops edition g F = capped g ≡ capped (greatest-wear (told edition F))
+Tops edition g F = one-more g ≡ one-more (greatest-wear (told edition F))
 
 -- ---- where a page is erased
 
@@ -99,8 +91,13 @@ module _ (edition k′ : ℕ) where
   greatest-amid : (f : Pages) (pg : List Word) (r : Pages)
       → greatest-wear (told edition (f ++ pg ∷ r))
       ≡ max (greatest-wear (told edition f)) (max (or-value (wear-in edition pg) 0) (greatest-wear (told edition r)))
-  unfolding greatest-wear page
-  greatest-amid f pg r = ap greatest-wear (told-amid edition f pg r) ∙ greatest-append (told edition f) (page edition pg ∷ told edition r)
+  unfolding greatest-wear greatest page
+  greatest-amid f pg r =
+      ap greatest-wear (told-amid edition f pg r) ∙ ap greatest (map-append worn (told edition f) (page edition pg ∷ told edition r))
+      ∙ greatest-append (map worn (told edition f)) (worn (page edition pg) ∷ map worn (told edition r))
+    where
+      worn : Page → ℕ
+      worn p = or-value (p .wear) 0
 
   -- it still does when a page has been renewed
   tops-renewed : (g : ℕ) (f : Pages) (pg : List Word) (r : Pages) → Tops edition g (f ++ pg ∷ r)
@@ -111,11 +108,11 @@ module _ (edition k′ : ℕ) where
       let w = renewed-wear g wear in
       let a = greatest-wear (told edition f) in
       let b = greatest-wear (told edition r) in
-      let was : capped g ≡ max (capped a) (max (capped (or-value wear 0)) (capped b)) =
-      h ∙ ap capped (greatest-amid f pg r) ∙ capped-max a (max (or-value wear 0) b) ∙ ap (max (capped a)) (capped-max (or-value wear 0) b) in
-      capped-max g w ∙ regroup (capped a) (capped b) (capped (or-value wear 0)) (capped g) (capped w) was (grows g wear)
-      ∙ ap (max (capped a)) (sym (capped-max w b)) ∙ sym (capped-max a (max w b))
-      ∙ ap capped (rw (greatest-amid f (fresh edition k′ w) r, fresh-wear edition k′ w))
+      let was : one-more g ≡ max (one-more a) (max (one-more (or-value wear 0)) (one-more b)) =
+      h ∙ ap one-more (greatest-amid f pg r) ∙ one-more-max a (max (or-value wear 0) b) ∙ ap (max (one-more a)) (one-more-max (or-value wear 0) b) in
+      one-more-max g w ∙ regroup (one-more a) (one-more b) (one-more (or-value wear 0)) (one-more g) (one-more w) was (grows g wear)
+      ∙ ap (max (one-more a)) (sym (one-more-max w b)) ∙ sym (one-more-max a (max w b))
+      ∙ ap one-more (rw (greatest-amid f (fresh edition k′ w) r, fresh-wear edition k′ w))
     where
       regroup : (a b o g w : ℕ) → g ≡ max a (max o b) → o ≤ w → max g w ≡ max a (max w b)
       regroup a b o g w e l = omega arith

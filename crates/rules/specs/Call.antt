@@ -1,11 +1,11 @@
 -- C and N: the whole outcome of each call, accepted or refused.
-use Prim.Native.Nat.{ℕ, zero, suc, _/_, _%_, _<_}
+use Prim.Native.Nat.{ℕ, zero, suc, _*_, _/_, _%_, _<_}
 use mathlib.Core.Bool.{Bool, true, false, cond, not, _&&_, _||_}
 use mathlib.Core.List.{List, [], _∷_, _++_, map}
 use mathlib.Core.Option.{Option, none, some}
 use lib.ListN.{length, take, drop}
 use lib.Dec.{eqb, leb, ltb}
-use Rattle.rules.specs.Flash.{Step, run}
+use Rattle.rules.specs.Flash.{Step, bytes-at, run}
 use Rattle.rules.specs.Word.{Word, words}
 use Rattle.rules.specs.Page.{Form, size, State, Page, page}
 use Rattle.rules.specs.Store.{states, base, used, is-open, used-orders, active-order, count, held, value, or-value}
@@ -61,6 +61,10 @@ cut size (suc n) i = words (take size i) ∷ cut size n (drop size i)
 
 abbrev pub first-pages : (form : Form) (n : ℕ) → List ℕ → List Page
 first-pages f n i = map (page (f .edition)) (cut (size f) n i)
+
+-- the one at an index, by its bytes
+abbrev pub page-in : (form : Form) (index : ℕ) → List ℕ → Page
+page-in f k i = page (f .edition) (words (bytes-at (k * size f) (size f) i))
 
 unfoldable pub page-count : Form → List ℕ → ℕ
 page-count f i = length i / size f

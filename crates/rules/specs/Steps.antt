@@ -1,7 +1,7 @@
 -- C: the steps of format, recovery and write, fixed by the image at the call.
 use Prim.Native.Nat.{ℕ, zero, suc, _+_, min, max}
 use mathlib.Core.Bool.{Bool, false, cond, not, _||_}
-use mathlib.Core.List.{List, [], _∷_, _++_}
+use mathlib.Core.List.{List, [], _∷_, _++_, map}
 use mathlib.Core.Option.{Option, none, some}
 use lib.ListN.{length}
 use lib.Dec.{eqb, leb, ltb}
@@ -9,7 +9,7 @@ use Rattle.rules.specs.Flash.{Step, erase}
 use Rattle.rules.specs.Word.{word-steps, wear-word, opening-word, done-word, record-word}
 use Rattle.rules.specs.Page.{State, Page, wear-place, opening-place, done-place, slot-place}
 use Rattle.rules.specs.Store.{states, base, used, is-cleared, active-order, active-index, active-slots, count, least-worn, index, Setting}
-use Rattle.rules.specs.Store.{setting, settings, value, or-value, free-slot}
+use Rattle.rules.specs.Store.{greatest, setting, settings, value, or-value, free-slot}
 
 -- C3. Renewing a page: it is erased and gets a wear word.
 unfoldable pub renew : (edition index wear : ℕ) → List Step
@@ -24,13 +24,15 @@ unfoldable pub format-steps : (edition pages : ℕ) → List Step
 format-steps edition n = renew-all edition 0 n ++ word-steps 0 opening-place (opening-word 1 0)
 
 -- C4. New wear: one more than the page had or, if it had none, than the greatest in the image just before its erase; 65,535 at most.
+abbrev pub one-more : (wear : ℕ) → ℕ
+one-more n = min (n + 1) 65535
+
 unfoldable pub renewed-wear : (greatest : ℕ) → Option ℕ → ℕ
-renewed-wear greatest wear = min (or-value wear greatest + 1) 65535
+renewed-wear greatest wear = one-more (or-value wear greatest)
 
 -- the greatest wear that a page has, 0 if none has one
 unfoldable pub greatest-wear : List Page → ℕ
-greatest-wear [] = 0
-greatest-wear (p ∷ ps) = max (or-value (p .wear) 0) (greatest-wear ps)
+greatest-wear ps = greatest (map (λ (p : Page). or-value (p .wear) 0) ps)
 
 -- a page that is to be renewed, and its new wear
 pub data Renewal : Type 0 where

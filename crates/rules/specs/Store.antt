@@ -1,9 +1,9 @@
 -- S: the store. It is the list of its pages, by index.
 use Prim.Native.Nat.{ℕ, zero, suc, _+_, _<_, max}
 use mathlib.Core.Bool.{Bool, true, false, cond, _&&_}
-use mathlib.Core.List.{List, [], _∷_, _++_}
+use mathlib.Core.List.{List, [], _∷_, _++_, map}
 use mathlib.Core.Option.{Option, none, some}
-use lib.ListN.{length}
+use lib.ListN.{length, getD}
 use lib.Dec.{eqb, leb, ltb}
 use Rattle.rules.specs.Word.{Word, low16, third, blank, Condition, Sound, Blank, Spoiled, slot-condition}
 use Rattle.rules.specs.Page.{State, cleared, open₁, open₂, receiving, bad, Page}
@@ -20,9 +20,12 @@ order₂ (open₂ o) = o
 order₂ receiving = 0
 order₂ bad = 0
 
+unfoldable pub greatest : List ℕ → ℕ
+greatest [] = 0
+greatest (o ∷ os) = max o (greatest os)
+
 unfoldable pub base : List State → ℕ
-base [] = 0
-base (s ∷ ss) = max (order₂ s) (base ss)
+base ss = greatest (map order₂ ss)
 
 -- S2. Used: open, with the base order or a greater one.
 unfoldable pub used : (base : ℕ) → State → Bool
@@ -66,10 +69,6 @@ used-orders b (s ∷ ss) = add-order (used b s) (order s) (used-orders b ss)
 unfoldable pub Under : ℕ → List ℕ → Type 0
 Under m [] = Unit {0}
 Under m (o ∷ os) = (o < m) × Under m os
-
-unfoldable pub greatest : List ℕ → ℕ
-greatest [] = 0
-greatest (o ∷ os) = max o (greatest os)
 
 -- S3. Active: the used page of greatest order. Its order, and its index.
 unfoldable pub active-order : List State → ℕ
@@ -184,14 +183,15 @@ unfoldable pub free-slot : List Word → ℕ
 free-slot [] = 0
 free-slot (w ∷ ws) = past (blank w) (free-slot ws)
 
--- the slots of the active page
-unfoldable pub slots-at : ℕ → List Page → List Word
-slots-at k [] = []
-slots-at zero (p ∷ ps) = p .slots
-slots-at (suc k) (p ∷ ps) = slots-at k ps
+-- the page at an index, if there is one, and the slots of the active page
+abbrev pub no-page : Page
+no-page = record { state = bad; wear = none; slots = [] }
+
+abbrev pub page-at : (index : ℕ) → List Page → Page
+page-at k ps = getD ps k no-page
 
 unfoldable pub active-slots : List Page → List Word
-active-slots ps = slots-at (active-index (states ps)) ps
+active-slots ps = page-at (active-index (states ps)) ps .slots
 
 -- how many pages pass a test
 unfoldable pub count : (State → Bool) → List State → ℕ

@@ -5,32 +5,26 @@ use mathlib.Core.Bool.{Bool, true, false, cond}
 use mathlib.Core.List.{List, [], _∷_, _++_, append-nil}
 use native.Mathlib.Numerals.{add-one}
 use native.Mathlib.Omega.{arith}
-use lib.ListN.{length, getD, take, drop, replicate, length-append, length-map, length-replicate, List·getD-map}
+use lib.ListN.{length, getD, take, drop, replicate, length-append, length-map, length-replicate}
 use lib.Seq.{take-suc, take-all, length-take-le, drop-drop}
 use Rattle.rules.specs.Flash.{Half, Step, program, erase, first, second, offset, aim, bytes-at, after, run}
 use Rattle.rules.specs.Word.{Word, word, words, wear-word, word-steps}
-use Rattle.rules.specs.Page.{Form, word-count, size, State, Page, page, wear-in}
+use Rattle.rules.specs.Page.{Form, word-count, size, State, Page, page}
+use Rattle.rules.specs.Store.{no-page}
 use Rattle.rules.specs.Steps.{renew, renewed-wear, greatest-wear, Renewal, renewal, renewals, renew-each, renew-picked}
-use Rattle.rules.specs.Call.{cut, first-pages}
+use Rattle.rules.specs.Call.{cut, first-pages, page-in}
 use Rattle.rules.proofs.Truth.{by-cases}
-use Rattle.rules.proofs.Cut.{cut-length, cut-page, drop-sets-below}
+use Rattle.rules.proofs.Cut.{cut-length, drop-sets-below}
+use Rattle.rules.proofs.Told.{page-cut}
 use Rattle.rules.proofs.Plans.{cut-run}
 use Rattle.rules.proofs.Lengths.{renew-length}
 use Rattle.rules.proofs.Wears.{each-append}
-use Rattle.steps.specs.Picked.{wear-at, picked-steps}
+use Rattle.steps.specs.Picked.{picked-steps}
 
--- the part that the code lends, from an offset and of a size that were computed, is the page
-pub part-is : (fm : Form) (p : ℕ) (i : List ℕ) (start n : ℕ) → start ≡ p * size fm → n ≡ size fm
-    → take (start + n - start) (drop start i) ≡ bytes-at (p * size fm) (size fm) i
+-- a page whose bytes are as they were is as it was
+same-page : (fm : Form) (p : ℕ) (i j : List ℕ) → drop (p * (size fm)) j ≡ drop (p * (size fm)) i → page-in fm p j ≡ page-in fm p i
 unfolding bytes-at
-part-is fm p i start n e f =
-    let g : start + n - start ≡ n = omega arith in
-    ap₂ (λ (m o : ℕ). take m (drop o i)) (g ∙ f) e
-
--- a page that is as it was has the wear that it had
-pub same-wear : (fm : Form) (p : ℕ) (i j : List ℕ) → drop (p * (size fm)) j ≡ drop (p * (size fm)) i → wear-at fm p j ≡ wear-at fm p i
-unfolding wear-at bytes-at
-same-wear fm p i j e = ap (λ (l : List ℕ). wear-in (fm .edition) (words (take (size fm) l))) e
+same-page fm p i j e = ap (λ (l : List ℕ). page (fm .edition) (words (take (size fm) l))) e
 
 -- ---- what lies behind a page stays as the page is renewed
 
@@ -103,21 +97,14 @@ module _ (fm : Form) (n : ℕ) (i : List ℕ) where
   abbrev told : List Page
   told = first-pages fm n i
 
-  -- the page at an index
-  abbrev pub told-at : ℕ → Page
-  told-at j = page (fm .edition) (words (bytes-at (j * size fm) (size fm) i))
-
-  told-long : length told ≡ n
+  pub told-long : length told ≡ n
   told-long = length-map (cut (size fm) n i) (page (fm .edition)) ∙ cut-length (size fm) n i
 
   pub told-all : take n told ≡ told
   told-all = take-all n told (omega (arith, told-long))
 
-  pub told-next : (j : ℕ) → j < n → take (suc j) told ≡ take j told ++ (told-at j ∷ [])
-  told-next j l =
-      take-suc told j (page (fm .edition) []) (omega (arith, told-long))
-      ∙ ap (λ (p : Page). take j told ++ (p ∷ []))
-      (List·getD-map (page (fm .edition)) (cut (size fm) n i) j [] ∙ ap (page (fm .edition)) (cut-page (size fm) n j i l))
+  told-next : (j : ℕ) → j < n → take (suc j) told ≡ take j told ++ (page-in fm j i ∷ [])
+  told-next j l = take-suc told j no-page (omega (arith, told-long)) ∙ ap (λ (p : Page). take j told ++ (p ∷ [])) (page-cut fm n j i l)
 
   module _ (picks : List Bool) where
     abbrev chosen : ℕ → State → Bool
@@ -133,21 +120,21 @@ module _ (fm : Form) (n : ℕ) (i : List ℕ) where
     front : (j : ℕ) → j < n → 0 + length (take j told) ≡ j
     front j l = omega (arith, length-take-le j told (omega (arith, told-long)))
 
-    upto-next : (j : ℕ) → j < n → upto (suc j) ≡ upto j ++ renew-each (fm .edition) (renewals chosen (greatest-at j) j (told-at j ∷ []))
+    upto-next : (j : ℕ) → j < n → upto (suc j) ≡ upto j ++ renew-each (fm .edition) (renewals chosen (greatest-at j) j (page-in fm j i ∷ []))
     unfolding upto greatest-at
     upto-next j l =
         let g = greatest-wear told in
         ap (λ (ps : List Page). renew-each (fm .edition) (renewals chosen g 0 ps)) (told-next j l)
-        ∙ ap (renew-each (fm .edition)) (renewals-append chosen g 0 (take j told) (told-at j ∷ []))
-        ∙ each-append (fm .edition) (renewals chosen g 0 (take j told)) (renewals chosen (greatest-at j) (0 + length (take j told)) (told-at j ∷ []))
-        ∙ ap (λ (x : ℕ). upto j ++ renew-each (fm .edition) (renewals chosen (greatest-at j) x (told-at j ∷ []))) (front j l)
+        ∙ ap (renew-each (fm .edition)) (renewals-append chosen g 0 (take j told) (page-in fm j i ∷ []))
+        ∙ each-append (fm .edition) (renewals chosen g 0 (take j told)) (renewals chosen (greatest-at j) (0 + length (take j told)) (page-in fm j i ∷ []))
+        ∙ ap (λ (x : ℕ). upto j ++ renew-each (fm .edition) (renewals chosen (greatest-at j) x (page-in fm j i ∷ []))) (front j l)
 
-    greatest-next : (j : ℕ) → j < n → greatest-at (suc j) ≡ reached chosen (greatest-at j) j (told-at j ∷ [])
+    greatest-next : (j : ℕ) → j < n → greatest-at (suc j) ≡ reached chosen (greatest-at j) j (page-in fm j i ∷ [])
     unfolding greatest-at
     greatest-next j l =
         let g = greatest-wear told in
-        ap (reached chosen g 0) (told-next j l) ∙ reached-append chosen g 0 (take j told) (told-at j ∷ [])
-        ∙ ap (λ (x : ℕ). reached chosen (greatest-at j) x (told-at j ∷ [])) (front j l)
+        ap (reached chosen g 0) (told-next j l) ∙ reached-append chosen g 0 (take j told) (page-in fm j i ∷ [])
+        ∙ ap (λ (x : ℕ). reached chosen (greatest-at j) x (page-in fm j i ∷ [])) (front j l)
 
     pub upto-none : upto 0 ≡ []
     unfolding upto renewals renew-each
@@ -162,14 +149,14 @@ module _ (fm : Form) (n : ℕ) (i : List ℕ) where
     upto-all = ap (λ (ps : List Page). renew-each (fm .edition) (renewals chosen (greatest-wear told) 0 ps)) told-all
 
     module _ (j : ℕ) (l : j < n) where
-      pub upto-picked : getD picks j false ≡ true → upto (j + 1) ≡ upto j ++ renew (fm .edition) j (renewed-wear (greatest-at j) (wear-at fm j i))
-      unfolding renewals renew-each page wear-at
+      pub upto-picked : getD picks j false ≡ true → upto (j + 1) ≡ upto j ++ renew (fm .edition) j (renewed-wear (greatest-at j) (page-in fm j i .wear))
+      unfolding renewals renew-each
       upto-picked t =
-          let here = renew (fm .edition) j (renewed-wear (greatest-at j) (wear-at fm j i)) in
+          let here = renew (fm .edition) j (renewed-wear (greatest-at j) (page-in fm j i .wear)) in
           rw add-one (upto-next j l ∙ ap (λ (ss : List Step). upto j ++ ss) (rw t (append-nil here)))
 
-      pub greatest-picked : getD picks j false ≡ true → greatest-at (j + 1) ≡ max (greatest-at j) (renewed-wear (greatest-at j) (wear-at fm j i))
-      unfolding reached page wear-at
+      pub greatest-picked : getD picks j false ≡ true → greatest-at (j + 1) ≡ max (greatest-at j) (renewed-wear (greatest-at j) (page-in fm j i .wear))
+      unfolding reached
       greatest-picked t = rw add-one (greatest-next j l ∙ rw t)
 
       pub upto-passed : getD picks j false ≡ false → upto (j + 1) ≡ upto j
@@ -224,11 +211,11 @@ module _ (fm : Form) (n left : ℕ) (picks : List Bool) (i : List ℕ) where
         }
 
     pub passed-picked : (image′ : List ℕ) (rest′ wear greatest′ : ℕ) → getD picks j false ≡ true → length image′ ≡ length image
-        → wear ≡ renewed-wear greatest (wear-at fm j image) → rest′ ≡ rest - 3 → image′ ≡ run (size fm) (take rest (renew (fm .edition) j wear)) image
+        → wear ≡ renewed-wear greatest (page-in fm j image .wear) → rest′ ≡ rest - 3 → image′ ≡ run (size fm) (take rest (renew (fm .edition) j wear)) image
         → greatest′ ≡ max greatest wear → Passed fm n left picks i (j + 1) image′ rest′ greatest′
     passed-picked image′ rest′ wear greatest′ t l is r q m =
-        let w = renewed-wear (greatest-at fm n i picks j) (wear-at fm j i) in
-        let got : wear ≡ w = is ∙ ap₂ renewed-wear (h .is-greatest) (same-wear fm j i image (h .behind)) in
+        let w = renewed-wear (greatest-at fm n i picks j) (page-in fm j i .wear) in
+        let got : wear ≡ w = is ∙ ap₂ renewed-wear (h .is-greatest) (ap (λ (p : Page). p .wear) (same-page fm j i image (h .behind))) in
         let e = upto-picked fm n i picks j in-range t in
         let len = length-append (upto fm n i picks j) (renew (fm .edition) j w) in
         let three = renew-length (fm .edition) j w in

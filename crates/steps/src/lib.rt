@@ -8,10 +8,10 @@ ghost use Rattle.rules.specs.Page.{word-count, size};
 ghost use Rattle.rules.specs.Word.{word-steps};
 ghost use Rattle.rules.specs.Store.{or-value};
 ghost use Rattle.rules.specs.Steps.{renew, renew-all, greatest-wear, copy-steps};
-ghost use Rattle.rules.specs.Call.{first-pages};
+ghost use Rattle.rules.specs.Call.{first-pages, page-in};
 ghost use Rattle.words.specs.Read.{as-word};
 ghost use Rattle.pages.specs.Read.{as-form, Lawful};
-ghost use Rattle.steps.specs.Picked.{wear-at, picked-steps};
+ghost use Rattle.steps.specs.Picked.{picked-steps};
 ghost use Rattle.steps.specs.Copied.{copied};
 use pages::Form;
 use pages::PAGES_MAX;
@@ -83,7 +83,7 @@ fn greater(a: u16, b: u16) -> u16
 // P4. Wear of the page at an index; `other` for a page that has none.
 fn wear_at(image: &[u8], form: Form, page: usize, other: u16) -> u16
     requires { ⌜ Lawful form × (page < 32) × (page * size (as-form form) + size (as-form form) ≤ length (now image)) ⌝ }
-    ensures { λ r. ⌜ r ≡ or-value (wear-at (as-form form) page (now (image .entry))) other ⌝ }
+    ensures { λ r. ⌜ r ≡ or-value (page-in (as-form form) page (now (image .entry)) .wear) other ⌝ }
 {
     let at = form.start(page);
     let end = at + form.size();

@@ -10,8 +10,8 @@ use lib.Seq.{take-suc, take-all, take-append-seam, getD-take, length-take-le}
 use lib.Dec.{eqb, ltb}
 use borrow.Author.Tests.{eqb-true, eqb-false, ltb-true, ltb-false}
 use Rattle.rules.specs.Word.{Word, blank}
-use Rattle.rules.specs.Page.{Form, size, State, page, blank-word, all-blank}
-use Rattle.rules.specs.Store.{Setting, records, all-records, free-slot, active-index, active-slots, slots-at, put-all, states, base, journal, settings}
+use Rattle.rules.specs.Page.{Form, size, State, blank-word, all-blank}
+use Rattle.rules.specs.Store.{Setting, records, all-records, free-slot, active-index, active-slots, no-page, page-at, put-all, states, base, journal, settings}
 use Rattle.rules.specs.Call.{page-count, pages}
 use Rattle.rules.proofs.Cut.{page-within, pages-long}
 use Rattle.rules.proofs.Truth.{by-cases}
@@ -25,7 +25,7 @@ use Rattle.survey.specs.Places.{at-places}
 use Rattle.survey.specs.declared.Look.{Look}
 use Rattle.survey.specs.Look.{pages-number, Lines, Told, Looks}
 use Rattle.survey.proofs.Line.{at-place}
-use Rattle.survey.proofs.Slots.{page-slots, slots-are, slots-many}
+use Rattle.survey.proofs.Slots.{slots-are, slots-many}
 use Rattle.survey.proofs.Looking.{pages-sized}
 use Rattle.store.specs.Gather.{gathered, Passes}
 
@@ -72,7 +72,7 @@ module _ {fm : Form} {i : List ℕ} {look : Look} (h : Looks fm i look) where
             let w = page-within (size fm) (page-count fm i) (getD (look .line) k 0) (t .line .within k l) in let s = sizes .sized in omega arith;
         last = λ k e.
             let w = t .line .within k (omega arith) in
-            t .free ∙ ap free-slot (ap (λ (j : ℕ). slots-at j (pages fm i)) (place k e) ∙ slots-are fm (getD (look .line) k 0) i w);
+            t .free ∙ ap free-slot (ap (λ (j : ℕ). page-at j (pages fm i) .slots) (place k e) ∙ slots-are fm (getD (look .line) k 0) i w);
       }
 
   pub passes : Passes fm i (look .line) (look .used) (look .free)
@@ -140,10 +140,9 @@ module _ (fm : Form) (i : List ℕ) where
   one-page : (k : ℕ) → k < page-count fm i → all-records (take 1 (drop k (pages fm i))) ≡ records (slots-in fm k i)
   unfolding at-places all-records
   one-page k l =
-      let nothing = page (fm .edition) [] in
-      let here : take 1 (drop k (pages fm i)) ≡ getD (pages fm i) k nothing ∷ [] =
-      sym (append-nil (take 1 (drop k (pages fm i)))) ∙ at-place (pages fm i) k nothing (omega (arith, pages-long fm i)) in
-      ap all-records here ∙ append-nil (records (getD (pages fm i) k nothing .slots)) ∙ ap records (page-slots fm k i l)
+      let here : take 1 (drop k (pages fm i)) ≡ page-at k (pages fm i) ∷ [] =
+      sym (append-nil (take 1 (drop k (pages fm i)))) ∙ at-place (pages fm i) k no-page (omega (arith, pages-long fm i)) in
+      ap all-records here ∙ append-nil (records (page-at k (pages fm i) .slots)) ∙ ap records (slots-are fm k i l)
 
   gathered-pages : (ks : List ℕ) → ((k : ℕ) → k < length ks → getD ks k 0 < page-count fm i) → all-records (at-places (pages fm i) ks) ≡ gathered fm i ks
   unfolding gathered at-places all-records

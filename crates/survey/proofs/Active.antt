@@ -28,7 +28,7 @@ next-some [] h = absurd (omega arith)
 next-some (o ∷ os) h = refl
 
 greatest-ranks : (m b : ℕ) (ss : List State) → Under m (map (rank b) ss) → greatest-below m (map (rank b) ss) ≡ next (used-orders b ss)
-unfolding greatest-below Under used-orders add-order next
+unfolding greatest-below greatest Under used-orders add-order next
 greatest-ranks m b [] h = refl
 greatest-ranks m b (s ∷ ss) h =
     let rest = greatest-ranks m b ss (h .1) in

@@ -9,7 +9,7 @@ use lib.Seq.{getD-take}
 use lib.Dec.{eqb}
 use borrow.Author.Tests.{eqb-true, eqb-false, eq-eqb, ne-eqb}
 use Rattle.rules.specs.Page.{Form, size, State, bad}
-use Rattle.rules.specs.Store.{Under, states, base, used, is-open, is-cleared, used-orders, count, active-index, active-order, active-slots, slots-at, free-slot}
+use Rattle.rules.specs.Store.{Under, states, base, used, is-open, is-cleared, used-orders, count, active-index, active-order, active-slots, page-at, free-slot}
 use Rattle.rules.specs.Steps.{unclean}
 use Rattle.rules.specs.Call.{first-of, page-count, pages, wrong-size, no-store, repeats, all-used, OK, NO-STORE, DAMAGED}
 use Rattle.rules.proofs.Cut.{page-within, pages-long}
@@ -230,7 +230,7 @@ module _ {fm : Form} {i : List ℕ} {n u : ℕ} {xs : List Code} {rs : List ℕ}
 
     pub free-told : {f : ℕ} → f ≡ free-slot (slots-in fm p i) → f ≡ free-slot (active-slots (pages fm i))
     unfolding active-slots
-    free-told e = e ∙ ap free-slot (sym (slots-are fm p i inside) ∙ ap (λ (k : ℕ). slots-at k (pages fm i)) is)
+    free-told e = e ∙ ap free-slot (sym (slots-are fm p i inside) ∙ ap (λ (k : ℕ). page-at k (pages fm i) .slots) is)
 
   -- ---- the cleared pages
 

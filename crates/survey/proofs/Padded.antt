@@ -11,6 +11,7 @@ use lib.Dec.{eqb, ltb}
 use Rattle.rules.specs.Page.{State, bad}
 use Rattle.rules.proofs.Truth.{by-cases}
 use Rattle.survey.specs.States.{padded}
+use Rattle.rules.specs.Store.{greatest}
 use Rattle.survey.specs.Places.{taken-places, greatest-below, newest, next-below, lined, Falls}
 use Rattle.survey.proofs.Arrays.{next-place, map-replicate, getD-padded}
 use Rattle.survey.proofs.Greatest.{newest-stays}
@@ -56,7 +57,7 @@ taken-padded [] k = taken-zeros k
 taken-padded (x ∷ xs) k = ap (λ (n : ℕ). cond (eqb x 0) 0 1 + n) (taken-padded xs k)
 
 greatest-zeros : (m k : ℕ) → greatest-below m (replicate k 0) ≡ 0
-unfolding greatest-below
+unfolding greatest-below greatest
 greatest-zeros m zero = refl
 greatest-zeros m (suc k) =
     let e = greatest-zeros m k in by-cases (ltb 0 m) (λ t. rw t (omega arith)) (λ t. rw t (omega arith))

@@ -4,37 +4,26 @@ use Prim.Native.Nat.{ℕ, zero, suc, _+_, _-_, _*_, _≤_, _<_}
 use mathlib.Core.Path.{_≡_, refl, sym, ap, _∙_}
 use mathlib.Core.List.{List, [], _∷_}
 use native.Mathlib.Omega.{arith}
-use lib.ListN.{length, getD, take, drop, length-drop, List·getD-map}
+use lib.ListN.{length, take, drop, length-drop}
 use lib.Seq.{take-nil, take-take, drop-drop}
 use Rattle.rules.specs.Flash.{bytes-at}
 use Rattle.rules.specs.Word.{Word, word, words}
 use Rattle.rules.specs.Page.{Form, word-count, size, Page, page, slots}
-use Rattle.rules.specs.Store.{slots-at}
-use Rattle.rules.specs.Call.{page-count, cut, pages}
-use Rattle.rules.proofs.Cut.{cut-page, words-length, bytes-at-length, pages-long, next-words}
+use Rattle.rules.specs.Store.{page-at}
+use Rattle.rules.specs.Call.{page-count, pages}
+use Rattle.rules.proofs.Cut.{words-length, bytes-at-length, next-words}
+use Rattle.rules.proofs.Told.{page-cut}
 use Rattle.pages.proofs.Header.{slots-at as slots-behind}
 use Rattle.survey.specs.States.{slots-in}
 
 -- ---- in the store
 
-slots-there : (k : ℕ) (ps : List Page) (d : Page) → k < length ps → slots-at k ps ≡ getD ps k d .slots
-unfolding slots-at
-slots-there k [] d l = absurd (omega arith)
-slots-there zero (p ∷ ps) d l = refl
-slots-there (suc k) (p ∷ ps) d l = slots-there k ps d (omega arith)
-
-module _ (fm : Form) (k : ℕ) (i : List ℕ) (l : k < page-count fm i) where
-  pub page-slots : getD (pages fm i) k (page (fm .edition) []) .slots ≡ slots-in fm k i
-  unfolding pages page slots-in
-  page-slots =
-      ap (λ (p : Page). p .slots)
-      (List·getD-map (page (fm .edition)) (cut (size fm) (page-count fm i) i) k [] ∙ ap (page (fm .edition)) (cut-page (size fm) (page-count fm i) k i l))
-
-  pub slots-are : slots-at k (pages fm i) ≡ slots-in fm k i
-  slots-are = slots-there k (pages fm i) (page (fm .edition) []) (omega (arith, pages-long fm i)) ∙ page-slots
+pub slots-are : (fm : Form) (k : ℕ) (i : List ℕ) → k < page-count fm i → page-at k (pages fm i) .slots ≡ slots-in fm k i
+unfolding pages slots-in
+slots-are fm k i l = ap (λ (p : Page). p .slots) (page-cut fm (page-count fm i) k i l)
 
 pub slots-many : (fm : Form) (k : ℕ) (i : List ℕ) → k * size fm + size fm ≤ length i → length (slots-in fm k i) ≡ fm .slot-count
-unfolding slots-in slots
+unfolding slots-in page slots
 slots-many fm k i l =
     let e : length (words (bytes-at (k * size fm) (size fm) i)) ≡ word-count fm = words-length (word-count fm) (bytes-at (k * size fm) (size fm) i)
     (bytes-at-length (k * size fm) (size fm) i l) in
@@ -60,7 +49,7 @@ drop-take (suc m) (suc n) (x ∷ l) =
 
 -- the slots are the words of the bytes behind the header
 slots-from : (fm : Form) (k : ℕ) (i : List ℕ) → slots-in fm k i ≡ words (take (4 * fm .slot-count) (drop (k * size fm + 12) i))
-unfolding slots-in bytes-at
+unfolding slots-in page bytes-at
 slots-from fm k i =
     sym (slots-behind (take (size fm) (drop (k * size fm) i)))
     ∙ ap words (drop-take 12 (size fm) (drop (k * size fm) i) ∙ ap (λ (m : ℕ). take m (drop 12 (drop (k * size fm) i))) (behind (fm .slot-count))

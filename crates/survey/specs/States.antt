@@ -5,11 +5,10 @@ use mathlib.Core.Logic.{_⊎_}
 use mathlib.Core.Bool.{cond}
 use mathlib.Core.List.{List, [], _∷_, _++_}
 use lib.ListN.{length, replicate}
-use Rattle.rules.specs.Flash.{bytes-at}
-use Rattle.rules.specs.Word.{Word, words}
+use Rattle.rules.specs.Word.{Word}
 use Rattle.rules.specs.Page.{Form, size, State, slots}
 use Rattle.rules.specs.Store.{states, order}
-use Rattle.rules.specs.Call.{page-count, wrong-size, first-pages}
+use Rattle.rules.specs.Call.{page-count, wrong-size, first-pages, page-in}
 
 -- The number r of an image's pages, 0 if its size is wrong.
 pub record Counted (fm : Form) (i : List ℕ) (r : ℕ) : Type 0 where
@@ -33,4 +32,4 @@ OrdersFit (s ∷ ss) = (order s < 4194304) × OrdersFit ss
 
 -- the slots of the page at an index of the image
 unfoldable pub slots-in : (form : Form) (index : ℕ) → List ℕ → List Word
-slots-in f k i = slots (words (bytes-at (k * size f) (size f) i))
+slots-in f k i = page-in f k i .slots

@@ -1,18 +1,18 @@
 -- A move in the terms of the code: how many steps it has, and that its renewals are those of the image at the call, since no
 -- step before them works on another page. Assumes nothing.
-use Prim.Native.Nat.{ℕ, zero, suc, _+_, _*_, _≤_, _<_, max}
+use Prim.Native.Nat.{ℕ, zero, suc, _+_, _*_, _≤_, _<_}
 use mathlib.Core.Path.{_≡_, refl, sym, ap, _∙_, subst}
 use mathlib.Core.Bool.{Bool, false, not}
 use mathlib.Core.List.{List, [], _∷_, _++_, map}
-use mathlib.Core.Option.{none, some}
+use mathlib.Core.Option.{Option, none, some}
 use native.Mathlib.Omega.{arith}
-use lib.ListN.{length, getD, set, take, length-append, length-map}
-use lib.Seq.{take-suc, take-length}
+use lib.ListN.{length, getD, set, take, length-append, length-map, List·getD-map}
+use lib.Seq.{take-suc, take-length, map-set-same}
 use borrow.Author.Tests.{eq-eqb}
 use Rattle.rules.specs.Flash.{Half, Step, program, erase, after, run}
 use Rattle.rules.specs.Word.{Word, word, opening-word, done-word, record-word, word-steps}
-use Rattle.rules.specs.Page.{Form, word-count, size, wear-part, wear-in, page, opening-place, done-place, slot-place}
-use Rattle.rules.specs.Store.{Setting, setting, Rising, last-of, or-value}
+use Rattle.rules.specs.Page.{Form, word-count, size, wear-part, wear-in, Page, page, opening-place, done-place, slot-place}
+use Rattle.rules.specs.Store.{greatest, Setting, setting, Rising, last-of, or-value}
 use Rattle.rules.specs.Steps.{greatest-wear, renewals, renew-each, renew-picked, other, but, move-records, copy-steps, fill-steps, move-steps}
 use Rattle.rules.specs.Call.{Roomy, cut, first-pages}
 use Rattle.rules.proofs.Shape.{Within, target, page-after, store-after}
@@ -20,6 +20,7 @@ use Rattle.rules.proofs.Lengths.{move-long}
 use Rattle.rules.proofs.Renewing.{renewals-set}
 use Rattle.rules.proofs.Cut.{cut-after, cut-length, length-after}
 use Rattle.rules.proofs.Settings.{but-cases, but-none, but-length, above-none, last-of-rest, none-some}
+use Rattle.survey.proofs.Arrays.{map-set}
 use Rattle.settings.specs.Held.{addresses-of, values-of}
 use Rattle.settings.proofs.Tables.{setting-at}
 use Rattle.steps.specs.Picked.{picked-steps}
@@ -76,9 +77,11 @@ on-fill m p o cs l =
 greatest-set : (edition p : ℕ) (x : List Word) (F : List (List Word)) → wear-in edition x ≡ wear-in edition (getD F p [])
     → greatest-wear (map (page edition) (set F p x)) ≡ greatest-wear (map (page edition) F)
 unfolding greatest-wear page
-greatest-set edition p x [] e = refl
-greatest-set edition zero x (y ∷ F) e = rw e
-greatest-set edition (suc p) x (y ∷ F) e = ap (max (or-value (wear-in edition y) 0)) (greatest-set edition p x F e)
+greatest-set edition p x F e =
+    let worn : Page → ℕ = λ q. or-value (q .wear) 0 in
+    ap (λ (ps : List Page). greatest (map worn ps)) (map-set (page edition) F p x)
+    ∙ ap greatest (map-set-same worn (map (page edition) F) p (page edition x) (page edition [])
+    (ap (λ (w : Option ℕ). or-value w 0) e ∙ ap worn (sym (List·getD-map (page edition) F p []))))
 
 -- the wear word stays where another word is programmed
 wear-stays : (edition k p w : ℕ) (h : Half) (low high : ℕ) (pg : List Word) → 0 < w

@@ -1,6 +1,6 @@
 -- `steps::renew_picked` meets its contract. The invariant: the picked pages among the first i are renewed, and the greatest wear is
 -- that of the image as it would be then. Assumes nothing.
-use Prim.Native.Nat.{ℕ, _+_, _-_, _*_, _≤_, _<_, min}
+use Prim.Native.Nat.{_+_, _-_, _*_, _≤_, _<_}
 use mathlib.Core.Path.{_≡_, ap, _∙_}
 use mathlib.Core.Logic.{⊎-elim}
 use native.Mathlib.Omega.{arith}
@@ -8,7 +8,7 @@ use denote.Ref.{now}
 use lib.ListN.{length}
 use borrow.Author.Needs.{needs}
 use Rattle.rules.specs.Page.{size}
-use Rattle.rules.specs.Steps.{renewed-wear}
+use Rattle.rules.specs.Steps.{one-more, renewed-wear}
 use Rattle.rules.proofs.Cut.{page-within}
 use Rattle.pages.specs.Read.{as-form, Lawful}
 use Rattle.steps.proofs.Picked.{Passed, passed-none, passed-by, passed-picked, passed-all}
@@ -75,7 +75,7 @@ loop-again c =
       omega arith,
       passed-picked (as-form (a .form)) (a .n) (a .left) (a .t4) (now (a .image)) (l .i) (l .image) (l .rest) (l .greatest) (l .inv .2)
           (omega arith) (c .if1 .image) (c .if1 .rest) (w .3 .result) (c .if1 .greatest) (w .0 .taken) (ap length (w .9) ∙ r .kept .0)
-          (w .3 .ensures ∙ ap (λ (n : ℕ). min (n + 1) 65535) (w .2 .ensures)) e (w .9 ∙ r .ensures .1) (w .10 ∙ w .8 .ensures),
+          (w .3 .ensures ∙ ap one-more (w .2 .ensures)) e (w .9 ∙ r .ensures .1) (w .10 ∙ w .8 .ensures),
     ))
     (λ w.
     let e : c .if1 .rest ≡ l .rest = w .3 in

@@ -5,16 +5,15 @@ use mathlib.Core.List.{List}
 use denote.Ref.{now}
 use borrow.Author.Needs.{needs}
 use Rattle.rules.specs.Word.{words}
-use Rattle.rules.specs.Page.{wear-in}
+use Rattle.rules.specs.Page.{wear-in, page}
 use Rattle.rules.specs.Store.{or-value}
 use Rattle.pages.specs.Read.{as-form}
-use Rattle.steps.specs.Picked.{wear-at}
-use Rattle.steps.proofs.Picked.{part-is}
+use Rattle.pages.proofs.Forms.{part-is}
 use Rattle.steps.proofs.wear_at.Statement.{statement}
 use Rattle.steps.proofs.wear_at.Tie as tie
 
 returns : tie.Need-returns
-unfolding wear-at
+unfolding page
 returns c =
     let a = c .before .before .before .before .before .args in
     let n = c .before .before .size in
