@@ -1,5 +1,5 @@
 #!/usr/bin/env python3
-"""Writes the sample beside this script: example12.bin, the image that README.md explains byte by byte."""
+"""Writes the samples beside this script: example12.bin, which README.md explains byte by byte, and power_cut.bin."""
 
 import pathlib
 
@@ -13,5 +13,9 @@ def page(text):
 
 EXAMPLE_12 = page("01 00 01 16  01 00 00 17  FF FF FF FF  05 00 41 14  07 00 C8 12  05 00 42 14") + page("01 00 01 16")
 
+# Then 201 was to be written to address 7, and power failed after the first half of its record, in slot 3.
+POWER_CUT = EXAMPLE_12[:24] + bytes.fromhex("07 00") + EXAMPLE_12[26:]
+
 if __name__ == "__main__":
-    (pathlib.Path(__file__).parent / "example12.bin").write_bytes(EXAMPLE_12)
+    for name, image in (("example12", EXAMPLE_12), ("power_cut", POWER_CUT)):
+        (pathlib.Path(__file__).parent / (name + ".bin")).write_bytes(image)

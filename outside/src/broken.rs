@@ -1,8 +1,9 @@
-//! Stores broken on purpose, most of them among the designs that look sound and aren't. A test driver
-//! that lets one of them pass is worth nothing.
+//! Stores broken on purpose, most of them among the designs that look sound and aren't, and listings that miscount. A
+//! test driver that lets one of them pass is worth nothing.
 
 use crate::page::*;
 use crate::rules::*;
+use crate::second::listing_with;
 use crate::steps::*;
 use crate::word::*;
 use crate::{Pairing, Reading, Second, Stepped, Store};
@@ -249,5 +250,97 @@ impl Store for Eager {
     }
     fn lookup(&self, image: &[u8]) -> Pairing {
         Second.lookup(image)
+    }
+}
+
+/// Listings of which only the count of the broken words is wrong.
+#[derive(Clone, Copy, Debug, PartialEq, Eq)]
+pub enum WrongListing {
+    /// A half-written slot counts as spoiled too.
+    HalfIsSpoiledToo,
+    /// A half-written slot counts as spoiled and not as half-written, as before wish 2.
+    HalfIsSpoiled,
+    /// A blank slot counts as half-written.
+    BlankIsHalf,
+    /// A slot that is neither sound nor blank counts as half-written if its third byte is 255, whatever its fourth is.
+    ThirdByteTells,
+    /// The same by its fourth byte alone.
+    FourthByteTells,
+    /// A sound slot with address 65,535 doesn't count as spoiled.
+    NoAddressIsSound,
+    /// The slots of all open pages count.
+    EveryOpenPage,
+    /// The slots of the active page count, and of no other.
+    ActivePageAlone,
+    /// The header words of the used pages count too.
+    HeaderWordsToo,
+    /// The slots of a page count only up to its first blank one.
+    UpToTheFirstBlank,
+    /// After 255 comes 0.
+    CountsWrap,
+}
+
+pub const WRONG_LISTINGS: [WrongListing; 11] = [
+    WrongListing::HalfIsSpoiledToo,
+    WrongListing::HalfIsSpoiled,
+    WrongListing::BlankIsHalf,
+    WrongListing::ThirdByteTells,
+    WrongListing::FourthByteTells,
+    WrongListing::NoAddressIsSound,
+    WrongListing::EveryOpenPage,
+    WrongListing::ActivePageAlone,
+    WrongListing::HeaderWordsToo,
+    WrongListing::UpToTheFirstBlank,
+    WrongListing::CountsWrap,
+];
+
+impl WrongListing {
+    pub fn listing(self, image: &[u8]) -> Vec<u8> {
+        listing_with(image, |image| self.broken_words(image))
+    }
+
+    fn broken_words(self, image: &[u8]) -> (usize, usize) {
+        let pages = self.pages(image).into_iter().map(|page| page_at(image, page));
+        let conditions: Vec<Condition> = pages.flat_map(|page| self.conditions(page)).collect();
+        let count = |wanted| conditions.iter().filter(|&&condition| condition == wanted).count();
+        let (half, spoiled) = (count(Condition::HalfWritten), count(Condition::Spoiled));
+        match self {
+            WrongListing::HalfIsSpoiledToo => (half, half + spoiled),
+            WrongListing::HalfIsSpoiled => (0, half + spoiled),
+            WrongListing::CountsWrap => (half % 256, spoiled % 256),
+            _ => (half, spoiled),
+        }
+    }
+
+    fn pages(self, image: &[u8]) -> Vec<usize> {
+        match self {
+            WrongListing::EveryOpenPage => (0..page_count(image))
+                .filter(|&page| matches!(state(page_at(image, page)), State::Open { .. }))
+                .collect(),
+            WrongListing::ActivePageAlone => vec![active_page(image).page],
+            _ => used_pages(image).into_iter().map(|used| used.page).collect(),
+        }
+    }
+
+    fn conditions(self, page: &[u8]) -> Vec<Condition> {
+        let slots = (0..SLOTS).map(|slot| slot_word(page, slot));
+        let header = [WEAR_OFFSET, OPENING_OFFSET, DONE_OFFSET].map(|offset| condition(word_at(page, offset)));
+        match self {
+            WrongListing::HeaderWordsToo => header.into_iter().chain(slots.map(slot_condition)).collect(),
+            WrongListing::UpToTheFirstBlank => slots.take_while(|&word| !is_blank(word)).map(slot_condition).collect(),
+            _ => slots.map(|word| self.slot_condition(word)).collect(),
+        }
+    }
+
+    fn slot_condition(self, word: Word) -> Condition {
+        match (self, slot_condition(word)) {
+            (WrongListing::BlankIsHalf, Condition::Blank) => Condition::HalfWritten,
+            (WrongListing::ThirdByteTells, Condition::Spoiled) if word[2] == 255 && !is_sound(word) => {
+                Condition::HalfWritten
+            }
+            (WrongListing::FourthByteTells, Condition::Spoiled) if word[3] == 255 => Condition::HalfWritten,
+            (WrongListing::NoAddressIsSound, _) => condition(word),
+            (_, condition) => condition,
+        }
     }
 }

@@ -152,7 +152,7 @@ fn odd_done_word(order: u32, rng: &mut Rng) -> Word {
         1 => done_word(order ^ 1),
         2 => order_word(order, RECEIVING),
         3 => done_word(some_order(rng)),
-        4 => spoiled_word(done_word(order), rng),
+        4 => torn_word(done_word(order), rng),
         _ => some_word(rng),
     }
 }
@@ -171,17 +171,22 @@ fn some_word(rng: &mut Rng) -> Word {
     (rng.draw() as u32).to_le_bytes()
 }
 
-/// The word with some of its 0 bits set, as power may leave it.
-fn spoiled_word(word: Word, rng: &mut Rng) -> Word {
+/// The word with some of its 0 bits set, as power may leave it: spoiled most often.
+fn torn_word(word: Word, rng: &mut Rng) -> Word {
     let stays = some_word(rng);
     let at = rng.below(4);
-    let mut spoiled = word;
+    let mut torn = word;
     if rng.one_in(2) {
-        spoiled[at] |= stays[at];
+        torn[at] |= stays[at];
     } else {
-        (0..4).for_each(|byte| spoiled[byte] |= stays[byte]);
+        (0..4).for_each(|byte| torn[byte] |= stays[byte]);
     }
-    spoiled
+    torn
+}
+
+/// The word after the first of its two steps.
+fn half_written_word(word: Word) -> Word {
+    [word[0], word[1], 255, 255]
 }
 
 /// What stands in a slot that no address of the pool has to have.
@@ -190,9 +195,9 @@ fn filler_word(pool: &[u16], rng: &mut Rng) -> Word {
     let value = rng.byte();
     match rng.below(20) {
         0 => record(NO_ADDRESS, value),
-        1 | 2 => spoiled_word(record(address, value), rng),
+        1 | 2 => torn_word(record(address, value), rng),
         3 => BLANK,
-        4 => [record(address, value)[0], record(address, value)[1], 255, 255],
+        4 => half_written_word(record(address, value)),
         _ => record(address, value),
     }
 }

@@ -4,7 +4,7 @@
 //! The rules are in `word` (four bytes), `page` (1,024 bytes) and `rules` (a whole image). The calls are there twice:
 //! `second` does them on the image as it goes, `steps` lists the steps beforehand. The rest serves the tests: `images`
 //! makes images from seeds, `failing` makes steps fail, `guard` lends an image between unreadable pages, and `broken`
-//! has stores that the tests must catch.
+//! has stores and listings that the tests must catch.
 //!
 //! `cargo test --release` tests the second implementation against itself; `ISTROVELL_LIB=directory cargo test --release
 //! --features library` tests the library `libistrovell.a` of that directory against it. ISTROVELL_IMAGES says how many

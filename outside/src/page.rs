@@ -57,7 +57,8 @@ pub fn state(page: &[u8]) -> State {
     }
 }
 
-/// The slot after the last slot that isn't blank. A spoiled slot isn't blank: it is never programmed again.
+/// The slot after the last slot that isn't blank. A half-written or spoiled slot isn't blank: it is never programmed
+/// again.
 pub fn free_slot(page: &[u8]) -> Option<usize> {
     let last_taken = (0..SLOTS).rev().find(|&slot| !is_blank(slot_word(page, slot)));
     let free = last_taken.map_or(0, |slot| slot + 1);

@@ -93,6 +93,21 @@ pub fn held(image: &[u8]) -> BTreeMap<u16, u8> {
     held
 }
 
+/// How many slots of the used pages are half-written, and how many are spoiled.
+pub fn broken_words(image: &[u8]) -> (usize, usize) {
+    let (mut half, mut spoiled) = (0, 0);
+    for used in used_pages(image) {
+        for slot in 0..SLOTS {
+            match slot_condition(slot_word(page_at(image, used.page), slot)) {
+                Condition::Sound | Condition::Blank => {}
+                Condition::HalfWritten => half += 1,
+                Condition::Spoiled => spoiled += 1,
+            }
+        }
+    }
+    (half, spoiled)
+}
+
 /// The cleared pages with their wear, by index.
 pub fn cleared_pages(image: &[u8]) -> Vec<(usize, u16)> {
     let mut cleared = Vec::new();

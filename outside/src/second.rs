@@ -194,12 +194,18 @@ pub fn lookup(image: &[u8]) -> Pairing {
 
 /// What the listing program prints for this input.
 pub fn listing(image: &[u8]) -> Vec<u8> {
+    listing_with(image, broken_words)
+}
+
+/// The same by another count of the broken words, which only a wrong listing (see `broken`) has.
+pub fn listing_with(image: &[u8], count: impl FnOnce(&[u8]) -> (usize, usize)) -> Vec<u8> {
     if let Err(number) = test_store(image) {
         return format!("refused {number}\n").into_bytes();
     }
     let held = held(image);
+    let (half, spoiled) = count(image);
     let mut text = format!(
-        "pages {} used {} cleared {} order {} held {}\n",
+        "pages {} used {} cleared {} order {} held {} half {half} spoiled {spoiled}\n",
         page_count(image),
         used_pages(image).len(),
         cleared_pages(image).len(),

@@ -12,6 +12,15 @@ pub const LAST_ORDER: u32 = 4_194_303;
 /// The address that no record may have.
 pub const NO_ADDRESS: u16 = 65_535;
 
+/// A word is exactly one of these.
+#[derive(Clone, Copy, Debug, PartialEq, Eq)]
+pub enum Condition {
+    Sound,
+    Blank,
+    HalfWritten,
+    Spoiled,
+}
+
 pub fn zero_bits(bytes: [u8; 3]) -> u8 {
     bytes.iter().map(|byte| byte.count_zeros() as u8).sum()
 }
@@ -29,8 +38,27 @@ pub fn is_blank(word: Word) -> bool {
     word == BLANK
 }
 
-pub fn is_spoiled(word: Word) -> bool {
-    !is_sound(word) && !is_blank(word)
+/// A second half of 65,535 says that no bit of it has been programmed; any other word that is neither sound nor blank
+/// broke later, or was hurt otherwise.
+pub fn condition(word: Word) -> Condition {
+    if is_sound(word) {
+        Condition::Sound
+    } else if is_blank(word) {
+        Condition::Blank
+    } else if word[2..] == [255, 255] {
+        Condition::HalfWritten
+    } else {
+        Condition::Spoiled
+    }
+}
+
+/// The same in a slot, where a sound word with address 65,535 counts as spoiled: no record has it.
+pub fn slot_condition(word: Word) -> Condition {
+    if is_sound(word) && word[..2] == [255, 255] {
+        Condition::Spoiled
+    } else {
+        condition(word)
+    }
 }
 
 pub fn wear_word(wear: u16) -> Word {
@@ -72,12 +100,10 @@ pub fn order_and_kind_in(word: Word) -> Option<(u32, u32)> {
     Some((number / 4, number % 4))
 }
 
-/// Address and value in a sound slot. A sound word with address 65,535 counts as spoiled in a slot.
+/// Address and value in a sound slot.
 pub fn record_in(word: Word) -> Option<(u16, u8)> {
-    let address = u16::from_le_bytes([word[0], word[1]]);
-    if is_sound(word) && address != NO_ADDRESS {
-        Some((address, word[2]))
-    } else {
-        None
+    match slot_condition(word) {
+        Condition::Sound => Some((u16::from_le_bytes([word[0], word[1]]), word[2])),
+        _ => None,
     }
 }

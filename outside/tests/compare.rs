@@ -4,13 +4,14 @@
 //! `second` does them against the lists of steps of `steps`, run one step at a time.
 //!
 //! A broken store that this catches: a write that does all its steps at allowance 1 (`Eager`); the others are in
-//! `broken_stores_are_caught`. ISTROVELL_IMAGES says how many images, ISTROVELL_SEED runs one alone.
+//! `broken_stores_are_caught`, and listings that miscount in `wrong_listings_are_caught`. ISTROVELL_IMAGES says how
+//! many images, ISTROVELL_SEED runs one alone.
 
 use std::io::Write;
 use std::process::{Command, Stdio};
 use std::time::Instant;
 
-use outside::broken::{Broken, Eager, WRONG_WEARS};
+use outside::broken::{Broken, Eager, WRONG_LISTINGS, WRONG_WEARS};
 use outside::guard::{note_seed, Guarded, Place};
 use outside::images;
 use outside::page::*;
@@ -274,8 +275,8 @@ fn the_listing_agrees_with_blank_reads() {
             continue;
         }
         let mut lines = text.lines();
-        let held = lines.next().and_then(|line| line.rsplit(' ').next()).unwrap().parse::<usize>().unwrap();
-        assert_eq!(lines.clone().count(), held, "seed {seed}");
+        let (_, from_held) = lines.next().and_then(|line| line.split_once(" held ")).unwrap();
+        assert_eq!(lines.clone().count().to_string(), from_held.split(' ').next().unwrap(), "seed {seed}");
         for line in lines {
             let (address, value) = line.split_once(' ').unwrap();
             let reading = read(&image, address.parse().unwrap());
@@ -292,15 +293,36 @@ fn output_of(program: &str, input: &[u8]) -> Vec<u8> {
     child.wait_with_output().expect("the listing program ends").stdout
 }
 
+/// How many images the listing program is compared on.
+const LISTED: u64 = 1_000;
+
+/// Runs the seeds and stops at the first whose image is not listed as the second implementation lists it.
+fn compare_listings(seeds: &[u64], print: impl Fn(&[u8]) -> Vec<u8>) -> Result<(), String> {
+    for &seed in seeds {
+        let image = images::image(seed);
+        let [printed, listed] = [print(&image), listing(&image)].map(|text| String::from_utf8(text).unwrap());
+        if printed != listed {
+            return Err(format!("ISTROVELL_SEED={seed}: {printed:?} and {listed:?}"));
+        }
+    }
+    Ok(())
+}
+
 #[test]
 #[ignore = "needs the listing program under test: ISTROVELL_LISTING=path"]
 fn the_listing_program_prints_the_same() {
     let program = std::env::var("ISTROVELL_LISTING").expect("ISTROVELL_LISTING names the program");
-    for seed in seeds(1_000) {
-        let image = images::image(seed);
-        let [printed, listed] =
-            [output_of(&program, &image), listing(&image)].map(|text| String::from_utf8(text).unwrap());
-        assert_eq!(printed, listed, "ISTROVELL_SEED={seed}");
+    compare_listings(&seeds(LISTED), |image| output_of(&program, image)).unwrap();
+}
+
+#[test]
+fn wrong_listings_are_caught() {
+    let seeds: Vec<u64> = (0..LISTED).collect();
+    for wrong in WRONG_LISTINGS {
+        let Err(text) = compare_listings(&seeds, |image| wrong.listing(image)) else {
+            panic!("{wrong:?} was not caught");
+        };
+        println!("{wrong:?}: {text}");
     }
 }
 

@@ -1,4 +1,4 @@
-//! The twelve examples of docs/FORMAT.md, on every store at hand.
+//! The twelve examples of docs/FORMAT.md, and what it says of broken words (X2, X9), on every store at hand.
 //!
 //! A broken store that these catch: one with an exclusive-or check (examples 1 to 4), see the last test.
 
@@ -8,8 +8,14 @@ use outside::broken::Broken;
 use outside::guard::{Guarded, Place};
 use outside::page::*;
 use outside::rules::*;
+use outside::steps::record_steps;
 use outside::word::*;
 use outside::*;
+
+/// The words of example 5.
+const HALF_WRITTEN: Word = [0x05, 0x00, 0xFF, 0xFF];
+const SPOILED: Word = [0x05, 0x00, 0x43, 0x14];
+const LAST_DONE: Word = [0xFF, 0xFF, 0xFF, 0x00];
 
 fn on_every_store(example: impl Fn(&dyn Store)) {
     example(&Second);
@@ -98,24 +104,34 @@ fn example_4_opening_and_done_words() {
 }
 
 #[test]
-fn example_5_spoiled_words() {
-    let last_done = [0xFF, 0xFF, 0xFF, 0x00];
-    assert!(is_spoiled([0x05, 0x00, 0xFF, 0xFF]) && is_spoiled([0x05, 0x00, 0x43, 0x14]));
-    assert!(is_sound(last_done) && done_word(LAST_ORDER) == last_done && record_in(last_done).is_none());
+fn example_5_half_written_and_spoiled_words() {
+    let words = [
+        (HALF_WRITTEN, Condition::HalfWritten, Condition::HalfWritten),
+        (SPOILED, Condition::Spoiled, Condition::Spoiled),
+        ([0x05, 0x00, 0xFF, 0x14], Condition::Spoiled, Condition::Spoiled),
+        ([0x05, 0x00, 0x43, 0xFF], Condition::Spoiled, Condition::Spoiled),
+        (LAST_DONE, Condition::Sound, Condition::Spoiled),
+        (BLANK, Condition::Blank, Condition::Blank),
+        (record(5, 65), Condition::Sound, Condition::Sound),
+    ];
+    for (word, elsewhere, in_slot) in words {
+        assert_eq!((condition(word), slot_condition(word)), (elsewhere, in_slot), "{word:?}");
+    }
+    assert!(done_word(LAST_ORDER) == LAST_DONE && record_in(LAST_DONE).is_none());
     on_every_store(|store| {
-        for spoiled in [[0x05, 0x00, 0xFF, 0xFF], [0x05, 0x00, 0x43, 0x14], last_done] {
+        for broken in [HALF_WRITTEN, SPOILED, LAST_DONE] {
             let mut image = formatted(store, 2);
-            put(&mut image, 0, slot_offset(0), spoiled);
+            put(&mut image, 0, slot_offset(0), broken);
             assert_eq!(store.read(&image, 5), NOT_HELD_ANSWER);
             assert_eq!(store.read(&image, 65_535), Reading { number: ADDRESS, value: 0 });
             write_all(store, &mut image, 5, 65);
-            assert_eq!(word_in(&image, 0, slot_offset(0)), spoiled);
+            assert_eq!(word_in(&image, 0, slot_offset(0)), broken);
             assert_eq!(word_in(&image, 0, slot_offset(1)), record(5, 65));
         }
         let mut image = formatted(store, 2);
         put(&mut image, 0, OPENING_OFFSET, order_word(LAST_ORDER, RECEIVING));
         assert_eq!(store.read(&image, 5), Reading { number: NO_STORE, value: 0 });
-        put(&mut image, 0, DONE_OFFSET, last_done);
+        put(&mut image, 0, DONE_OFFSET, LAST_DONE);
         assert_eq!(store.read(&image, 5), NOT_HELD_ANSWER);
         for count in 0..SLOTS {
             write_all(store, &mut image, 5, count as u8);
@@ -241,7 +257,7 @@ fn image_of_example_12() -> Vec<u8> {
 #[test]
 fn example_12_the_listing() {
     let image = image_of_example_12();
-    assert_eq!(listing(&image), b"pages 2 used 1 cleared 1 order 0 held 2\n5 66\n7 200\n");
+    assert_eq!(listing(&image), b"pages 2 used 1 cleared 1 order 0 held 2 half 0 spoiled 0\n5 66\n7 200\n");
     on_every_store(|store| {
         // The same image comes of three writes, and reads as it is listed.
         let mut written = formatted(store, 2);
@@ -251,6 +267,70 @@ fn example_12_the_listing() {
         assert_eq!(written, image);
         assert_eq!(store.read(&image, 5), held_value(66));
         assert_eq!(store.read(&image, 7), held_value(200));
+    });
+}
+
+/// X9: the slots of used pages count, and no other word.
+#[test]
+fn broken_words_counted() {
+    let mut image = formatted(&Second, 2);
+    for (slot, word) in [HALF_WRITTEN, SPOILED, LAST_DONE].into_iter().enumerate() {
+        put(&mut image, 0, slot_offset(slot), word);
+    }
+    assert_eq!(listing(&image), b"pages 2 used 1 cleared 1 order 0 held 0 half 1 spoiled 2\n");
+    put(&mut image, 1, OPENING_OFFSET, order_word(1, RECEIVING));
+    put(&mut image, 1, DONE_OFFSET, done_word(1));
+    assert_eq!(state(page_at(&image, 0)), State::Open { order: 0, kind: PLAIN });
+    assert_eq!(listing(&image), b"pages 2 used 1 cleared 0 order 1 held 0 half 0 spoiled 0\n");
+}
+
+/// A store in which 64 was written to address 5, and then 65 as far as the first step, where power failed.
+fn cut_after_the_first_step(store: &dyn Store) -> Vec<u8> {
+    let mut image = formatted(store, 2);
+    write_all(store, &mut image, 5, 64);
+    assert_eq!(store.write(&mut image, 5, 65, 1), Stepped { number: OK, finished: false, steps: 1 });
+    image
+}
+
+/// The torn word stands in slot 1 and is counted so until its page is erased, while address 5 gets 65 and then other
+/// values.
+fn stays_until_the_page_is_erased(store: &dyn Store, mut image: Vec<u8>, torn: Word, counted: &str) {
+    let listed = |value: u8, end: &str| format!("pages 2 used 1 cleared 1 {end}\n5 {value}\n").into_bytes();
+    let with_torn = format!("order 0 held 1 {counted}");
+    assert_eq!(word_in(&image, 0, slot_offset(1)), torn);
+    assert_eq!(listing(&image), listed(64, &with_torn));
+    assert_eq!(store.read(&image, 5), held_value(64));
+    assert_eq!(store.recover(&mut image, u16::MAX), Stepped { number: OK, finished: true, steps: 0 });
+    write_all(store, &mut image, 5, 65);
+    assert_eq!(word_in(&image, 0, slot_offset(1)), torn);
+    assert_eq!(word_in(&image, 0, slot_offset(2)), record(5, 65));
+    assert_eq!(listing(&image), listed(65, &with_torn));
+    for count in 3..SLOTS {
+        write_all(store, &mut image, 5, count as u8);
+    }
+    assert_eq!(word_in(&image, 0, slot_offset(1)), torn);
+    assert_eq!(listing(&image), listed(252, &with_torn));
+    write_all(store, &mut image, 5, 253);
+    assert_eq!(listing(&image), listed(253, "order 1 held 1 half 0 spoiled 0"));
+}
+
+#[test]
+fn a_power_cut_after_the_first_step_leaves_a_half_written_word() {
+    on_every_store(|store| {
+        let image = cut_after_the_first_step(store);
+        stays_until_the_page_is_erased(store, image, HALF_WRITTEN, "half 1 spoiled 0");
+    });
+}
+
+/// One bit of 65 stays, and the word becomes that of X2.
+#[test]
+fn a_second_half_that_fails_leaves_a_spoiled_word() {
+    on_every_store(|store| {
+        let mut image = cut_after_the_first_step(store);
+        let [_, second_half] = record_steps(0, 1, 5, 65);
+        let third_byte = second_half.bytes().start;
+        fail_step(&mut image, second_half, &mut |offset| if offset == third_byte { 0x02 } else { 0 });
+        stays_until_the_page_is_erased(store, image, SPOILED, "half 0 spoiled 1");
     });
 }
 

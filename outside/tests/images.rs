@@ -34,12 +34,42 @@ fn look_at_pages(image: &[u8], counts: &mut Counts) {
             "plain page, done word not blank",
             matches!(state, State::Open { kind: PLAIN, .. }) && !is_blank(done),
         );
-        note(counts, "slot with address 65,535", slot_word(page, 7)[..2] == [255, 255] && is_sound(slot_word(page, 7)));
-        note(counts, "spoiled slot", is_spoiled(slot_word(page, 7)));
-        let free = free_slot(page).unwrap_or(SLOTS);
-        note(counts, "blank slot in between", (0..free).any(|slot| is_blank(slot_word(page, slot))));
         note(counts, "page of 255 only", page.iter().all(|&byte| byte == 255));
     }
+}
+
+/// What the listing's count of broken words depends on, in a store that is accepted.
+fn look_at_slots(image: &[u8], counts: &mut Counts) {
+    let used = used_pages(image);
+    for (index, page) in image.chunks(PAGE_BYTES).enumerate() {
+        let is_used = used.iter().any(|used| used.page == index);
+        let is_old = !is_used && matches!(state(page), State::Open { .. });
+        let not_active = is_used && index != used[0].page;
+        let words: Vec<Word> = (0..SLOTS).map(|slot| slot_word(page, slot)).collect();
+        let any = |wanted: fn(Word) -> bool| words.iter().any(|&word| wanted(word));
+        let half_written = any(|word| condition(word) == Condition::HalfWritten);
+        let spoiled = any(|word| condition(word) == Condition::Spoiled);
+        let third_byte_255 = any(|word| condition(word) == Condition::Spoiled && word[2] == 255);
+        let fourth_byte_255 = any(|word| condition(word) == Condition::Spoiled && word[3] == 255);
+        let no_address = any(|word| is_sound(word) && word[..2] == [255, 255]);
+        let blank_between = words[..free_slot(page).unwrap_or(SLOTS)].contains(&BLANK);
+        let done = condition(word_at(page, DONE_OFFSET));
+        note(counts, "used page, half-written slot", is_used && half_written);
+        note(counts, "used page, spoiled slot", is_used && spoiled);
+        note(counts, "used page, spoiled slot with third byte 255", is_used && third_byte_255);
+        note(counts, "used page, spoiled slot with fourth byte 255", is_used && fourth_byte_255);
+        note(counts, "used page, sound slot with address 65,535", is_used && no_address);
+        note(counts, "used page, blank slot between others", is_used && blank_between);
+        note(counts, "used page, half-written done word", is_used && done == Condition::HalfWritten);
+        note(counts, "used page, spoiled done word", is_used && done == Condition::Spoiled);
+        note(counts, "used page that is not active, half-written slot", not_active && half_written);
+        note(counts, "used page that is not active, spoiled slot", not_active && spoiled);
+        note(counts, "open page that is not used, half-written slot", is_old && half_written);
+        note(counts, "open page that is not used, spoiled slot", is_old && spoiled);
+    }
+    let (half_written, spoiled) = broken_words(image);
+    note(counts, "more than 255 half-written slots", half_written > 255);
+    note(counts, "more than 255 spoiled slots", spoiled > 255);
 }
 
 fn look_at_store(image: &[u8], counts: &mut Counts) {
@@ -53,6 +83,7 @@ fn look_at_store(image: &[u8], counts: &mut Counts) {
         note(counts, "193 held", sound && held(image).len() == 193);
         return;
     }
+    look_at_slots(image, counts);
     let cleared = cleared_pages(image);
     let full = free_slot(page_at(image, active_page(image).page)).is_none();
     let clean = unclean_pages(image).is_empty();

@@ -1,4 +1,4 @@
-//! Single rules of document 01 beyond its examples, and of wish 1 of document 02, on every store at hand.
+//! Single rules of document 01 beyond its examples, and of wishes 1 and 2 of document 02, on every store at hand.
 //!
 //! Broken stores that these catch: one that takes a receiving page for current, one whose check counts the low half of each
 //! byte twice, and those of which only the wear is wrong, see the last test.
@@ -82,13 +82,17 @@ fn page_states() {
     assert_eq!(state(&cleared(9)), State::Cleared { wear: 9 });
     assert_eq!(state(&page_of(wear, BLANK, BLANK, &[BLANK, [255, 255, 255, 254]])), State::Bad);
     assert_eq!(state(&page_of(BLANK, BLANK, BLANK, &[])), State::Bad);
+    assert_eq!(state(&page_of([9, 0, 255, 255], order_word(6, PLAIN), BLANK, &[])), State::Bad);
     assert_eq!(state(&page_of(sound_word([9, 0, 2]), BLANK, BLANK, &[])), State::Bad);
     assert_eq!(state(&page_of(sound_word([9, 0, 0]), order_word(6, PLAIN), BLANK, &[])), State::Bad);
-    for done in [BLANK, [0; 4], done_word(6), done_word(7)] {
+    for half_written_or_spoiled in [[25, 0, 255, 255], [25, 0, 0, 255]] {
+        assert_eq!(state(&page_of(wear, half_written_or_spoiled, BLANK, &[])), State::Bad);
+    }
+    for done in [BLANK, [0; 4], [27, 0, 255, 255], done_word(6), done_word(7)] {
         assert_eq!(state(&page_of(wear, order_word(6, PLAIN), done, &[])), State::Open { order: 6, kind: PLAIN });
     }
     assert_eq!(state(&page_of(wear, opening, done_word(6), &[])), State::Open { order: 6, kind: RECEIVING });
-    for done in [BLANK, done_word(7), order_word(6, RECEIVING), order_word(6, 0), [27, 0, 0, 255]] {
+    for done in [BLANK, done_word(7), order_word(6, RECEIVING), order_word(6, 0), [27, 0, 255, 255], [27, 0, 0, 255]] {
         assert_eq!(state(&page_of(wear, opening, done, &[])), State::Receiving);
     }
     assert_eq!(state(&page_of(wear, order_word(6, 0), BLANK, &[])), State::Bad);
@@ -125,8 +129,9 @@ fn lost_wears(store: &dyn Store) {
     let blank = || unclean(BLANK);
     // The example.
     recovery_gives(store, 7, [receiving(), blank(), blank()], [10, 11, 12]);
-    // A spoiled wear word and one of another edition are none.
-    recovery_gives(store, 7, [blank(), unclean([1, 0, 1, 23]), unclean(sound_word([9, 0, 2]))], [8, 9, 10]);
+    // A half-written wear word, a spoiled one and one of another edition are none.
+    let without = [[9, 0, 255, 255], [1, 0, 1, 23], sound_word([9, 0, 2])].map(unclean);
+    recovery_gives(store, 7, without, [8, 9, 10]);
     // The wear of a page counts in whatever state it is, also before the page's turn.
     recovery_gives(store, 7, [blank(), cleared(20)], [21, 20]);
     recovery_gives(store, 7, [blank(), receiving(), blank()], [10, 10, 11]);

@@ -44,23 +44,33 @@ def cleared(n=1):
 
 EXAMPLE_12 = plain(0, [record(5, 65), record(7, 200), record(5, 66)]) + cleared()
 TOP = 4194303
+HALF = bytes([5, 0, 255, 255])
 SPOILED = bytes([5, 0, 0x43, 0x14])
 NO_ADDRESS = bytes([255, 255, 255, 0])
+BROKEN = [HALF, SPOILED, NO_ADDRESS]
+ONE_BYTE_255 = [bytes([5, 0, 255, 0x14]), bytes([5, 0, 0x43, 255])]  # of the second half, so that they are spoiled
 
 
 def worn():
-    """32 pages: the newest of the top order, older ones of falling order, an old move's pages, and pages of no use."""
-    pages = [cleared(3), plain(5, [record(9, 9)]), moved(TOP - 4, [record(300 * k, k) for k in range(188)])]
+    """32 pages: the newest of the top order, older ones of falling order, an old move's pages, and pages of no use.
+    Used pages and others have broken words, and a used one has a half-written done word."""
+    pages = [cleared(3), plain(5, [record(9, 9)] + BROKEN)]
+    pages += [moved(TOP - 4, [record(300 * k, k) for k in range(188)] + [HALF, HALF, BLANK, HALF] + ONE_BYTE_255)]
     pages += [plain(TOP - 2, [record(300 * (k % 188), 255 - k % 256) for k in range(253)])]
-    pages += [plain(TOP, [record(65534, 255), SPOILED, NO_ADDRESS, BLANK, record(0, 0), record(1, 10)])]
-    pages += [page(wear(9), number(TOP * 4 + 2), BLANK, record(2, 2)), page(b"\0" * 12), page()]
-    pages += [plain(TOP - 1, [record(10, 100), record(10, 99), record(100, 10)])]
+    pages += [plain(TOP, [record(65534, 255), SPOILED, NO_ADDRESS, BLANK, record(0, 0), HALF, record(1, 10), HALF])]
+    pages += [page(wear(9), number(TOP * 4 + 2), HALF, record(2, 2), *BROKEN), page(b"\0" * 12, *BROKEN), page()]
+    late = [record(10, 100), SPOILED, record(10, 99), HALF, record(100, 10)]
+    pages += [page(wear(1), number((TOP - 1) * 4 + 1), HALF, *late)]
     return b"".join(pages + [cleared(k) for k in range(32 - len(pages))])
 
 
 IMAGES = {
     "example_12": EXAMPLE_12,
+    "power_cut": EXAMPLE_12[:24] + record(7, 201)[:2] + EXAMPLE_12[26:],
     "nothing_held": plain(0, []) + cleared(),
+    "broken_words": plain(0, BROKEN) + cleared(),
+    "broken_words_not_used": plain(0, BROKEN) + moved(1, []),
+    "broken_words_only": b"".join(plain(k, [BROKEN[k % 2]] * 253) for k in range(31)) + cleared(),
     "worn": worn(),
     "size_empty": b"",
     "size_one_page": EXAMPLE_12[:1024],
@@ -106,18 +116,22 @@ def listing(image):
         return "refused 2\n"
     base = max([o for o, kind, _ in opened if kind == 2], default=0)
     used = sorted((o, p) for o, _, p in opened if o >= base)
-    values = {}
+    values, half, spoiled = {}, 0, 0
     for _, p in used:
         for k in range(12, 1024, 4):
             w = p[k : k + 4]
             address = int.from_bytes(w[:2], "little")
             if sound(w) and address != 65535:
                 values[address] = w[2]
+            elif w[2:] != b"\xff\xff":
+                spoiled += 1
+            elif w != BLANK:
+                half += 1
     orders = [o for o, _ in used]
     if len(set(orders)) < len(orders) or len(used) == len(pages) or len(values) > 192:
         return "refused 3\n"
-    first = (len(pages), len(used), states.count(("cleared",)), max(orders), len(values))
-    lines = ["pages %d used %d cleared %d order %d held %d\n" % first]
+    first = (len(pages), len(used), states.count(("cleared",)), max(orders), len(values), half, spoiled)
+    lines = ["pages %d used %d cleared %d order %d held %d half %d spoiled %d\n" % first]
     return "".join(lines + ["%d %d\n" % (a, values[a]) for a in sorted(values)])
 
 

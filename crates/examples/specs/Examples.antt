@@ -6,9 +6,11 @@ use mathlib.Core.Option.{Option, none, some}
 use lib.ListN.{replicate}
 use lib.Dec.{T, eqb}
 use Rattle.rules.specs.Flash.{Step, program, erase}
-use Rattle.rules.specs.Word.{Word, word, Condition, Sound, Blank, Spoiled, condition, wear-word, opening-word, done-word, record-word, slot-condition}
-use Rattle.rules.specs.Page.{State, open₁, receiving, bad, Page}
+use Rattle.rules.specs.Word.{Word, word, Condition, Sound, Blank, HalfWritten, Spoiled, condition, wear-word, opening-word, done-word, record-word}
+use Rattle.rules.specs.Word.{slot-condition}
+use Rattle.rules.specs.Page.{State, cleared, open₁, open₂, receiving, bad, Page}
 use Rattle.rules.specs.Steps.{recovery-steps}
+use Rattle.rules.specs.Listing.{half, spoiled}
 use Rattle.rules.specs.Call.{this-form, Stepped, Reading, format, recover, write, read, blank-read, lookup}
 
 -- a row: what the rules give, and what section X prints
@@ -32,13 +34,20 @@ bytes (word a b c d) = a ∷ b ∷ c ∷ d ∷ []
 abbrev pub SOUND : List ℕ
 SOUND = 1 ∷ []
 
+abbrev pub BLANK : List ℕ
+BLANK = 2 ∷ []
+
+abbrev pub HALF-WRITTEN : List ℕ
+HALF-WRITTEN = 3 ∷ []
+
 abbrev pub SPOILED : List ℕ
-SPOILED = 3 ∷ []
+SPOILED = 4 ∷ []
 
 unfoldable pub told : Condition → List ℕ
-told Sound = 1 ∷ []
-told Blank = 2 ∷ []
-told Spoiled = 3 ∷ []
+told Sound = SOUND
+told Blank = BLANK
+told HalfWritten = HALF-WRITTEN
+told Spoiled = SPOILED
 
 unfoldable pub said : Reading → List ℕ
 said r = r .number ∷ r .value ∷ []
@@ -59,6 +68,14 @@ done-by (erase p ∷ ss) = p ∷ done-by ss
 -- a page as far as a recovery looks at it
 abbrev pub page-with : State → Option ℕ → Page
 page-with s wear = record { state = s; wear = wear; slots = [] }
+
+-- a page with three broken slots, and what is counted of several pages
+abbrev pub page-broken : State → Page
+page-broken s =
+    record { state = s; wear = some 1; slots = word 0x05 0x00 0xFF 0xFF ∷ word 0x05 0x00 0x43 0x14 ∷ word 0xFF 0xFF 0xFF 0x00 ∷ word 0xFF 0xFF 0xFF 0xFF ∷ [] }
+
+unfoldable pub broken : List Page → List ℕ
+broken ps = half ps ∷ spoiled ps ∷ []
 
 -- bytes of 255
 abbrev pub empty-flash : ℕ → List ℕ
@@ -86,12 +103,13 @@ rows two-pages =
     ∷ row (bytes (opening-word 1 0)) (0x01 ∷ 0x00 ∷ 0x00 ∷ 0x17 ∷ [])
     ∷ row (bytes (opening-word 2 1)) (0x06 ∷ 0x00 ∷ 0x00 ∷ 0x16 ∷ [])
     ∷ row (bytes (done-word 1)) (0x07 ∷ 0x00 ∷ 0x00 ∷ 0x15 ∷ [])
-    -- 5. Spoiled words; FF FF FF 00 in a slot, and as a done word
-    ∷ row (told (condition (word 0x05 0x00 0xFF 0xFF))) SPOILED
+    -- 5. A half-written word, and a spoiled one; FF FF FF 00 in a slot, and as a done word; a blank word is neither
+    ∷ row (told (condition (word 0x05 0x00 0xFF 0xFF))) HALF-WRITTEN
     ∷ row (told (condition (word 0x05 0x00 0x43 0x14))) SPOILED
     ∷ row (told (slot-condition (word 0xFF 0xFF 0xFF 0x00))) SPOILED
     ∷ row (bytes (done-word 4194303)) (0xFF ∷ 0xFF ∷ 0xFF ∷ 0x00 ∷ [])
     ∷ row (told (condition (word 0xFF 0xFF 0xFF 0x00))) SOUND
+    ∷ row (told (condition (word 0xFF 0xFF 0xFF 0xFF))) BLANK
     -- 6. Lengths that are SIZE, at every call
     ∷ row (numbers (empty-flash 0)) (1 ∷ 1 ∷ 1 ∷ 1 ∷ 1 ∷ 1 ∷ [])
     ∷ row (numbers (empty-flash 1024)) (1 ∷ 1 ∷ 1 ∷ 1 ∷ 1 ∷ 1 ∷ [])
@@ -112,6 +130,9 @@ rows two-pages =
     -- With wear 65,534 on page 0 and none on the others: each of them gets 65,535.
     ∷ row (done-by (recovery-steps 1 (page-with (open₁ 0) (some 65534) ∷ page-with bad none ∷ page-with bad none ∷ [])))
     (1 ∷ 0xFF ∷ 0xFF ∷ 0x01 ∷ 0x07 ∷ 2 ∷ 0xFF ∷ 0xFF ∷ 0x01 ∷ 0x07 ∷ [])
+    -- X9. A used page with 05 00 FF FF, 05 00 43 14 and FF FF FF 00: half 1, spoiled 2. If it is open and not used: half 0, spoiled 0.
+    ∷ row (broken (page-broken (open₁ 0) ∷ page-with (cleared 1) (some 1) ∷ [])) (1 ∷ 2 ∷ [])
+    ∷ row (broken (page-broken (open₁ 0) ∷ page-with (open₂ 1) (some 1) ∷ [])) (0 ∷ 0 ∷ [])
     ∷ []
 
 unfoldable pub table : List Row

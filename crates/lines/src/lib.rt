@@ -1,5 +1,6 @@
 // The listing of a store: its text, written into a buffer that is lent. Each function appends at a place and gives the place
 // behind what it wrote.
+use broken::Broken;
 use pages::Form;
 use settings::HELD_MAX;
 use settings::NO_ADDRESS;
@@ -12,7 +13,7 @@ ghost use Rattle.rules.specs.Store.{Setting};
 ghost use Rattle.rules.specs.Listing.{decimal, text-refused, line-end, setting-lines, listing};
 ghost use Rattle.pages.specs.Read.{as-form, Lawful};
 ghost use Rattle.settings.specs.Held.{Holds};
-ghost use Rattle.lines.specs.Appended.{Appends, Written, pages-part, order-part, told-line, setting-line};
+ghost use Rattle.lines.specs.Appended.{Appends, Written, pages-part, order-part, broken-part, told-line, setting-line};
 
 fn put_byte(out: &mut [u8], at: usize, byte: u8) -> usize
     requires { ⌜ at < length (now out) ⌝ }
@@ -86,7 +87,7 @@ fn put_settings<'a>(
     end
 }
 
-// The first three of the five numbers of line one.
+// The first three numbers of line one.
 fn put_pages(out: &mut [u8], at: usize, count: u32, used: u32, cleared: u32) -> usize
     requires { ⌜ (count < 100000000) × (used < 100000000) × (cleared < 100000000) ⌝ }
     requires { ⌜ at + 45 ≤ length (now out) ⌝ }
@@ -97,14 +98,23 @@ fn put_pages(out: &mut [u8], at: usize, count: u32, used: u32, cleared: u32) -> 
     put_field(out, behind_used, b" cleared ", cleared)
 }
 
-// The other two, and the line's end.
+// The next two.
 fn put_order(out: &mut [u8], at: usize, order: u32, held: u32) -> usize
-    requires { ⌜ (order < 100000000) × (held < 100000000) × (at + 30 ≤ length (now out)) ⌝ }
+    requires { ⌜ (order < 100000000) × (held < 100000000) × (at + 29 ≤ length (now out)) ⌝ }
     ensures { λ r. ⌜ Appends (now (out .entry)) at (order-part order held) (now (out .exit)) r ⌝ }
 {
     let behind_order = put_field(out, at, b" order ", order);
-    let behind_held = put_field(out, behind_order, b" held ", held);
-    put_byte(out, behind_held, 10)
+    put_field(out, behind_order, b" held ", held)
+}
+
+// The last two, and the line's end.
+fn put_broken(out: &mut [u8], at: usize, half: u32, spoiled: u32) -> usize
+    requires { ⌜ (half < 100000000) × (spoiled < 100000000) × (at + 32 ≤ length (now out)) ⌝ }
+    ensures { λ r. ⌜ Appends (now (out .entry)) at (broken-part half spoiled) (now (out .exit)) r ⌝ }
+{
+    let behind_half = put_field(out, at, b" half ", half);
+    let behind_spoiled = put_field(out, behind_half, b" spoiled ", spoiled);
+    put_byte(out, behind_spoiled, 10)
 }
 
 // Line one.
@@ -115,13 +125,15 @@ fn put_first(
     cleared: usize,
     order: u32,
     held: usize,
+    broken: Broken,
 ) -> usize
-    requires { ⌜ (count ≤ 32) × (used ≤ 32) × (cleared ≤ 32) × (order < 4194304) × (held ≤ 192) ⌝ }
-    requires { ⌜ 75 ≤ length (now out) ⌝ }
-    ensures { λ r. ⌜ Appends (now (out .entry)) 0 (told-line count used cleared order held) (now (out .exit)) r ⌝ }
+    requires { ⌜ (count ≤ 32) × (used ≤ 32) × (cleared ≤ 32) × (order < 4194304) × (held ≤ 192) × (broken .half + broken .spoiled ≤ 16288) ⌝ }
+    requires { ⌜ 106 ≤ length (now out) ⌝ }
+    ensures { λ r. ⌜ Appends (now (out .entry)) 0 (told-line count used cleared order held (broken .half) (broken .spoiled)) (now (out .exit)) r ⌝ }
 {
-    let at = put_pages(out, 0, count as u32, used as u32, cleared as u32);
-    put_order(out, at, order, held as u32)
+    let behind_pages = put_pages(out, 0, count as u32, used as u32, cleared as u32);
+    let behind_held = put_order(out, behind_pages, order, held as u32);
+    put_broken(out, behind_held, broken.half as u32, broken.spoiled as u32)
 }
 
 // The line of a refusal.
@@ -146,13 +158,16 @@ pub fn list(image: &[u8], form: Form, out: &mut [u8]) -> usize
     if number != OK {
         return put_refused(out, number);
     }
+    let look = store.look;
+    let broken = broken::count(image, form, look);
     let at = put_first(
         out,
-        store.look.count,
-        store.look.used,
-        store.look.cleared,
-        store.look.order,
+        look.count,
+        look.used,
+        look.cleared,
+        look.order,
         store.held,
+        broken,
     );
     put_settings(out, at, &addresses, &values, store.held)
 }

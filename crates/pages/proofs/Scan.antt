@@ -5,12 +5,12 @@ use mathlib.Core.Bool.{Bool, true, false}
 use mathlib.Core.List.{List, [], _∷_}
 use native.Mathlib.Omega.{arith}
 use lib.ListN.{length, length-drop, getD, take, drop}
-use lib.Seq.{drop-drop, take-all}
+use lib.Seq.{drop-drop}
 use Rattle.rules.specs.Word.{Word, words, blank}
 use Rattle.rules.specs.Page.{blank-word, all-blank}
 use Rattle.rules.specs.Store.{past, free-slot}
 use Rattle.words.specs.Read.{word-in}
-use Rattle.words.proofs.Parts.{word-of, word-in-drop, length-words}
+use Rattle.words.proofs.Parts.{word-of, word-in-drop, length-words, all-words}
 
 -- ---- from the front
 
@@ -90,7 +90,7 @@ free-stop s (suc m) p h b =
     free-here m (words s) (omega (arith, length-words s)) b′
 
 pub free-whole : (s : List ℕ) → free-slot (words s) ≡ free-slot (take (length s / 4) (words s))
-free-whole s = ap free-slot (sym (take-all (length s / 4) (words s) (omega (arith, length-words s))))
+free-whole s = ap free-slot (sym (all-words s (length s / 4) (omega arith)))
 
 pub free-none : (n : ℕ) (ws : List Word) → n ≤ 0 → free-slot (take n ws) ≡ 0
 unfolding free-slot

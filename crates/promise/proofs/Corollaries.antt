@@ -9,7 +9,7 @@ use lib.ListN.{length, take, drop}
 use lib.Seq.{sets}
 use Rattle.rules.specs.Flash.{Step, program, first, second, offset, aim, after, run, bytes-at, Rises, none as no-bytes, more as byte, least, failing}
 use Rattle.rules.specs.Word.{zeros, check, sound, blank, condition, low16, low24, third, checked, wear-word, number-word, opening-word, record-word}
-use Rattle.rules.specs.Word.{slot-condition, word-steps, words}
+use Rattle.rules.specs.Word.{second-blank, slot-condition, word-steps, words}
 use Rattle.rules.specs.Page.{Form, size, wear-part, opening-part, done-part, slots, is-wear, wear-in, is-opening, order-in, is-done, all-blank}
 use Rattle.rules.specs.Page.{state-after-wear, state-by, state, page}
 use Rattle.rules.specs.Store.{states, order₂, base, used, is-cleared, is-open, order, add-order, used-orders, greatest, active-order, is-active}
@@ -91,7 +91,7 @@ record Computed : Type 0 where
   whole-reads : read this-form 5 (with-second 65 20) ≡ finds 65
 
 computed : Computed
-unfolding with-second laid-out laid laid-all offset aim after run zeros check sound blank condition low16 low24 third checked wear-word number-word
+unfolding with-second laid-out laid laid-all offset aim after run zeros check sound blank second-blank condition low16 low24 third checked wear-word number-word
     opening-word record-word slot-condition word-steps words wear-part opening-part done-part slots is-wear wear-in is-opening order-in is-done
     all-blank state-after-wear state-by state page states order₂ base used is-cleared is-open order add-order used-orders greatest active-order
     is-active index-of active-index add-page used-pages insert oldest-first add-record records all-records journal or-else last-of value put put-all

@@ -3,5 +3,6 @@ pub mod Answers
 pub mod Kept
 pub mod Counts
 pub mod Wears
+pub mod Broken
 pub mod Longest
 pub mod Corollaries

@@ -1,17 +1,18 @@
 -- What a workshop asks about its handsets, each answered from the promise.
-use Prim.Native.Nat.{ℕ, suc, _+_, _-_, _*_, _≤_, _<_}
+use Prim.Native.Nat.{ℕ, suc, _+_, _-_, _*_, _/_, _%_, _≤_, _<_}
 use mathlib.Core.Path.{_≡_}
 use mathlib.Core.Logic.{_⊎_}
 use mathlib.Core.Bool.{Bool, true, false}
 use mathlib.Core.List.{List, [], _∷_, _++_}
 use mathlib.Core.Option.{none, some}
 use lib.ListN.{length, replicate}
-use Rattle.rules.specs.Flash.{Step, program, erase, AllAllowed, bytes-at, run}
-use Rattle.rules.specs.Word.{word-steps, wear-word}
+use Rattle.rules.specs.Flash.{Step, program, erase, AllAllowed, Rises, bytes-at, run}
+use Rattle.rules.specs.Word.{word, check, Sound, HalfWritten, Spoiled, word-steps, wear-word, record-word, slot-condition}
 use Rattle.rules.specs.Page.{Form, size, Page, wear-place}
-use Rattle.rules.specs.Store.{states, base, is-cleared, page-at, count, used-orders, held}
+use Rattle.rules.specs.Store.{states, base, used, is-cleared, page-at, count, used-orders, held}
 use Rattle.rules.specs.Steps.{renew, renewed-wear, greatest-wear, format-steps, Way, stay, append-to, open-at, move-to, taken, way}
 use Rattle.rules.specs.Call.{this-form, Roomy, held-limit, page-count, pages, wrong-size, store-number, repeats, all-used, write-number, OK}
+use Rattle.rules.specs.Listing.{half, spoiled}
 use Rattle.rules.specs.Call.{NOT-HELD, Reading, read, format}
 use Rattle.promise.specs.Calls.{Image, pairing-code, finds, by-the-rules}
 use Rattle.promise.specs.History.{recovery-of, write-of, InUse, Interrupted}
@@ -104,6 +105,23 @@ pub record ComesBack (fm : Form) (i : Image) (p : ℕ) : Type 0 where
 abbrev pub a-lost-wear-comes-back-greatest : Type 0
 a-lost-wear-comes-back-greatest = (fm : Form) → Roomy fm → (i : Image) → store-number fm i ≡ OK → (p : ℕ) → p < page-count fm i
     → page-at p (pages fm i) .wear ≡ none → ComesBack fm i p
+
+-- "How far did a record come that power cut?" Its slot says so. If power failed before the second half was begun, the slot is
+-- half-written, whatever the first half has come to; only one of four bytes 255 is blank. If power failed in the second half, whatever
+-- bits that leaves, the slot is spoiled, unless nothing of that half is there or all of it. A whole record is sound.
+pub record SaysHowFar : Type 0 where
+  pub not-begun : (low high : ℕ) → (low ≡ 255 → high ≡ 255 → ⊥) → slot-condition (word low high 255 255) ≡ HalfWritten
+  pub broke-later : (a v c d : ℕ) → a < 65535 → Rises 8 v c → Rises 8 (check (a % 256) (a / 256) v) d → (c ≡ 255 → d ≡ 255 → ⊥)
+      → (record-word a v ≡ word (a % 256) (a / 256) c d → ⊥) → slot-condition (word (a % 256) (a / 256) c d) ≡ Spoiled
+  pub whole : (a v : ℕ) → a < 65535 → slot-condition (record-word a v) ≡ Sound
+
+abbrev pub a-cut-record-says-how-far-it-came : Type 0
+a-cut-record-says-how-far-it-came = SaysHowFar
+
+-- "How many broken words can a listing show?" No more than the used pages have slots.
+abbrev pub no-slot-counts-twice : Type 0
+no-slot-counts-twice = (fm : Form) (i : Image) → wrong-size fm i ≡ false
+    → half (pages fm i) + spoiled (pages fm i) ≤ count (used (base (states (pages fm i)))) (states (pages fm i)) * fm .slot-count
 
 -- "How long can a write take?" It has at most 388 steps, and 3 for each page but one; and in a store of any number of pages, of the
 -- form that there is, there is a write with so many.

@@ -10,6 +10,7 @@ pub mod Plans
 pub mod Told
 pub mod Pages
 pub mod Settings
+pub mod Conditions
 pub mod Slots
 pub mod Stores
 pub mod Active
@@ -29,3 +30,4 @@ pub mod Writing
 pub mod Formatting
 pub mod Healthy
 pub mod Laid
+pub mod Broken

@@ -6,13 +6,15 @@ use mathlib.Core.List.{List, [], _∷_, _++_}
 use native.Mathlib.Omega.{arith}
 use lib.ListN.{length}
 use lib.Dec.{eqb}
-use borrow.Author.Tests.{eqb-true, eqb-false, eq-eqb, ne-eqb}
-use Rattle.rules.specs.Word.{Word, sound, blank, Condition, Sound, Blank, Spoiled, condition, low16, record-word, slot-condition}
+use borrow.Author.Tests.{eqb-true, eqb-false}
+use Rattle.rules.specs.Word.{Word, sound, blank, Condition, Sound, Blank, HalfWritten, Spoiled}
+use Rattle.rules.specs.Word.{record-word, slot-condition}
 use Rattle.rules.specs.Page.{blank-word, Page, all-blank}
 use Rattle.rules.specs.Store.{Setting, setting, add-record, records, all-records, put, put-all, past, free-slot}
 use Rattle.rules.specs.Steps.{but}
 use Rattle.rules.proofs.Truth.{and-left, and-right, by-cases}
-use Rattle.rules.proofs.Words.{blank-is, record-address, record-value, record-sound, blank-not-sound}
+use Rattle.rules.proofs.Conditions.{unsound-cases, record-told, slot-sound}
+use Rattle.rules.proofs.Words.{blank-is, record-address, record-value, blank-not-sound}
 use Rattle.rules.proofs.Settings.{put-cases, but-cases}
 
 -- ---- the free slot
@@ -75,12 +77,13 @@ records-append (w ∷ xs) ys = rw (records-append xs ys) (add-append (slot-condi
     add-append : (c : Condition) (w : Word) (xs ys : List Setting) → add-record c w (xs ++ ys) ≡ add-record c w xs ++ ys
     add-append Sound w xs ys = refl
     add-append Blank w xs ys = refl
+    add-append HalfWritten w xs ys = refl
     add-append Spoiled w xs ys = refl
 
 -- a word that is not sound is no record
 pub no-record : (w : Word) (ws : List Word) → sound w ≡ false → records (w ∷ ws) ≡ records ws
-unfolding records slot-condition condition add-record
-no-record w ws s = rw s (by-cases (blank w) (λ b. rw b) (λ b. rw b))
+unfolding records add-record
+no-record w ws s = unsound-cases (λ (c : Condition). add-record c w (records ws) ≡ records ws) w s refl refl refl
 
 pub blank-records : (ws : List Word) → all-blank ws ≡ true → records ws ≡ []
 unfolding all-blank records
@@ -90,10 +93,8 @@ blank-records (w ∷ ws) h =
 
 -- a record that was made is one
 pub made-record : (a v : ℕ) (ws : List Word) → (a ≡ 65535 → ⊥) → records (record-word a v ∷ ws) ≡ setting a v ∷ records ws
-unfolding records slot-condition condition add-record
-made-record a v ws h =
-    let ne : eqb (low16 (record-word a v)) 65535 ≡ false = ne-eqb (low16 (record-word a v)) 65535 (λ e. h (sym (record-address a v) ∙ e)) in
-    rw (record-sound a v, ne, record-address a v, record-value a v)
+unfolding records add-record
+made-record a v ws h = rw (← record-told a v h, record-address a v, record-value a v)
 
 -- ---- no record has the address 65,535
 
@@ -106,20 +107,6 @@ unfolding Lawful
 lawful-append [] ys p q = q
 lawful-append (setting a v ∷ xs) ys p q = (p .0, lawful-append xs ys (p .1) q)
 
--- what counts in a slot is sound, and its address is not 65,535
-pub slot-sound : (w : Word) → slot-condition w ≡ Sound → (sound w ≡ true) × (low16 w ≡ 65535 → ⊥)
-unfolding slot-condition condition
-slot-sound w h =
-    by-cases (sound w)
-    (λ s. (
-      s,
-      λ e.
-          let h′ : Spoiled ≡ Sound = rw (s, eq-eqb (low16 w) 65535 e) at h in
-          let z : _≡_ {A = ℕ} 0 1 = cc in omega arith,
-    ))
-    (λ s. absurd (by-cases (blank w) (λ b. let h′ : Blank ≡ Sound = rw (s, b) at h in let z : _≡_ {A = ℕ} 0 1 = cc in omega arith)
-    (λ b. let h′ : Spoiled ≡ Sound = rw (s, b) at h in let z : _≡_ {A = ℕ} 0 1 = cc in omega arith)))
-
 pub records-lawful : (ws : List Word) → Lawful (records ws)
 unfolding records Lawful add-record
 records-lawful [] = tt
@@ -128,6 +115,7 @@ records-lawful (w ∷ ws) = added (slot-condition w) refl (records-lawful ws)
     added : (c : Condition) → slot-condition w ≡ c → Lawful (records ws) → Lawful (add-record c w (records ws))
     added Sound e l = (slot-sound w e .1, l)
     added Blank e l = l
+    added HalfWritten e l = l
     added Spoiled e l = l
 
 pub all-records-lawful : (ps : List Page) → Lawful (all-records ps)

@@ -73,7 +73,7 @@ torn-light a b c d c′ d′ s pc pd = light-rises (second-rises a b pc pd) (sou
 pub torn-sound : (a b c d c′ d′ : ℕ) → sound (word a b c d) ≡ true → Rises 8 c c′ → Rises 8 d d′ → sound (word a b c′ d′) ≡ true → word a b c d ≡ word a b c′ d′
 torn-sound a b c d c′ d′ s pc pd t = light-sound (second-rises a b pc pd) (sound-light (word a b c d) s) t
 
--- ---- the three conditions
+-- ---- blank words
 
 pub blank-is : (w : Word) → blank w ≡ true → w ≡ blank-word
 unfolding blank

@@ -1,11 +1,12 @@
 -- L: the bytes that the listing program prints.
 use Prim.Native.Nat.{ℕ, zero, suc, _+_, _/_, _%_}
-use mathlib.Core.Bool.{cond}
-use mathlib.Core.List.{List, [], _∷_, _++_}
+use mathlib.Core.Bool.{Bool, true, false, cond}
+use mathlib.Core.List.{List, [], _∷_, _++_, map}
 use lib.ListN.{length}
 use lib.Dec.{ltb}
+use Rattle.rules.specs.Word.{Condition, Sound, Blank, HalfWritten, Spoiled, slot-condition}
 use Rattle.rules.specs.Page.{Form, Page}
-use Rattle.rules.specs.Store.{states, base, used, is-cleared, active-order, count, Setting, setting, settings, held}
+use Rattle.rules.specs.Store.{states, base, used, is-cleared, active-order, used-pages, count, Setting, setting, settings, held}
 use Rattle.rules.specs.Call.{store-number, accepted, pages}
 
 -- a number in decimal digits, no more than `places`: none here has over seven
@@ -16,7 +17,7 @@ decimal-in (suc k) n = cond (ltb n 10) ((48 + n) ∷ []) (decimal-in k (n / 10) 
 unfoldable pub decimal : ℕ → List ℕ
 decimal n = decimal-in 8 n
 
--- the texts "pages ", " used ", " cleared ", " order ", " held ", "refused ", a space and a line feed
+-- the texts "pages ", " used ", " cleared ", " order ", " held ", " half ", " spoiled ", "refused ", a space and a line feed
 abbrev pub text-pages : List ℕ
 text-pages = 112 ∷ 97 ∷ 103 ∷ 101 ∷ 115 ∷ 32 ∷ []
 
@@ -32,6 +33,12 @@ text-order = 32 ∷ 111 ∷ 114 ∷ 100 ∷ 101 ∷ 114 ∷ 32 ∷ []
 abbrev pub text-held : List ℕ
 text-held = 32 ∷ 104 ∷ 101 ∷ 108 ∷ 100 ∷ 32 ∷ []
 
+abbrev pub text-half : List ℕ
+text-half = 32 ∷ 104 ∷ 97 ∷ 108 ∷ 102 ∷ 32 ∷ []
+
+abbrev pub text-spoiled : List ℕ
+text-spoiled = 32 ∷ 115 ∷ 112 ∷ 111 ∷ 105 ∷ 108 ∷ 101 ∷ 100 ∷ 32 ∷ []
+
 abbrev pub text-refused : List ℕ
 text-refused = 114 ∷ 101 ∷ 102 ∷ 117 ∷ 115 ∷ 101 ∷ 100 ∷ 32 ∷ []
 
@@ -41,12 +48,40 @@ space = 32 ∷ []
 abbrev pub line-end : List ℕ
 line-end = 10 ∷ []
 
--- L2. First line: the number of pages, of used and of cleared ones, the active order, the number held.
+-- L6. Broken words: how many slots of the used pages are half-written, and how many are spoiled.
+unfoldable pub is-half : Condition → Bool
+is-half Sound = false
+is-half Blank = false
+is-half HalfWritten = true
+is-half Spoiled = false
+
+unfoldable pub is-spoiled : Condition → Bool
+is-spoiled Sound = false
+is-spoiled Blank = false
+is-spoiled HalfWritten = false
+is-spoiled Spoiled = true
+
+-- the conditions of the slots of several pages, one page after the other
+unfoldable pub conditions : List Page → List Condition
+conditions [] = []
+conditions (p ∷ ps) = map slot-condition (p .slots) ++ conditions ps
+
+unfoldable pub used-conditions : List Page → List Condition
+used-conditions ps = conditions (used-pages (base (states ps)) ps)
+
+unfoldable pub half : List Page → ℕ
+half ps = count is-half (used-conditions ps)
+
+unfoldable pub spoiled : List Page → ℕ
+spoiled ps = count is-spoiled (used-conditions ps)
+
+-- L2. First line: the number of pages, of used and of cleared ones, the active order, the number held, of half-written slots and
+-- of spoiled ones.
 unfoldable pub first-line : List Page → List ℕ
 first-line ps =
     text-pages ++ decimal (length ps) ++ text-used ++ decimal (count (used (base (states ps))) (states ps)) ++ text-cleared
     ++ decimal (count is-cleared (states ps)) ++ text-order ++ decimal (active-order (states ps)) ++ text-held
-    ++ decimal (held ps) ++ line-end
+    ++ decimal (held ps) ++ text-half ++ decimal (half ps) ++ text-spoiled ++ decimal (spoiled ps) ++ line-end
 
 -- L3. Settings: address and value, addresses rising.
 unfoldable pub setting-lines : List Setting → List ℕ

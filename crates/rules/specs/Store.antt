@@ -5,7 +5,7 @@ use mathlib.Core.List.{List, [], _∷_, _++_, map}
 use mathlib.Core.Option.{Option, none, some}
 use lib.ListN.{length, getD}
 use lib.Dec.{eqb, leb, ltb}
-use Rattle.rules.specs.Word.{Word, low16, third, blank, Condition, Sound, Blank, Spoiled, slot-condition}
+use Rattle.rules.specs.Word.{Word, low16, third, blank, Condition, Sound, Blank, HalfWritten, Spoiled, slot-condition}
 use Rattle.rules.specs.Page.{State, cleared, open₁, open₂, receiving, bad, Page}
 
 unfoldable pub states : List Page → List State
@@ -115,6 +115,7 @@ value-of (setting a v) = v
 unfoldable pub add-record : Condition → Word → List Setting → List Setting
 add-record Sound w rs = setting (low16 w) (third w) ∷ rs
 add-record Blank w rs = rs
+add-record HalfWritten w rs = rs
 add-record Spoiled w rs = rs
 
 unfoldable pub records : List Word → List Setting
@@ -193,10 +194,10 @@ page-at k ps = getD ps k no-page
 unfoldable pub active-slots : List Page → List Word
 active-slots ps = page-at (active-index (states ps)) ps .slots
 
--- how many pages pass a test
-unfoldable pub count : (State → Bool) → List State → ℕ
+-- how many of a list pass a test
+unfoldable pub count : {A : Type 0} → (A → Bool) → List A → ℕ
 count test [] = 0
-count test (s ∷ ss) = cond (test s) 1 0 + count test ss
+count test (x ∷ xs) = cond (test x) 1 0 + count test xs
 
 -- S10. The page that is taken: the cleared one of least wear, of several such the one of lowest index.
 pub data Candidate : Type 0 where

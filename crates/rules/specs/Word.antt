@@ -26,12 +26,16 @@ sound (word a b c d) = eqb d (check a b c)
 unfoldable pub blank : Word → Bool
 blank (word a b c d) = eqb a 255 && (eqb b 255 && (eqb c 255 && eqb d 255))
 
--- W6. Spoiled: neither.
+-- W13. Half-written: neither, and its second half is 65,535.
+unfoldable pub second-blank : Word → Bool
+second-blank (word a b c d) = eqb c 255 && eqb d 255
+
+-- W6. Spoiled: none of these.
 pub data Condition : Type 0 where
-  Sound Blank Spoiled : Condition
+  Sound Blank HalfWritten Spoiled : Condition
 
 unfoldable pub condition : Word → Condition
-condition w = cond (sound w) Sound (cond (blank w) Blank Spoiled)
+condition w = cond (sound w) Sound (cond (blank w) Blank (cond (second-blank w) HalfWritten Spoiled))
 
 -- F1. The numbers that a word's bytes make, low byte first.
 unfoldable pub low16 : Word → ℕ

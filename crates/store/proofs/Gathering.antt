@@ -1,32 +1,27 @@
 -- The records of the used pages, gathered page by page. Assumes nothing.
-use Prim.Native.Nat.{ℕ, suc, _+_, _-_, _≤_, _<_}
+use Prim.Native.Nat.{ℕ, _+_, _-_, _≤_, _<_}
 use mathlib.Core.Path.{_≡_, refl, sym, ap, ap₂, _∙_, subst}
 use mathlib.Core.Logic.{_⊎_, inl, inr}
-use mathlib.Core.List.{List, [], _∷_, _++_, append-nil, append-assoc}
+use mathlib.Core.List.{List, [], _∷_, _++_, map, append-nil, append-assoc}
 use native.Mathlib.Numerals.{add-one}
 use native.Mathlib.Omega.{arith}
-use lib.ListN.{length, getD, take, drop}
-use lib.Seq.{take-suc, take-all, take-append-seam, getD-take, length-take-le}
+use lib.ListN.{length, getD, take}
+use lib.Seq.{take-suc, take-all, take-append-seam}
 use lib.Dec.{eqb, ltb}
 use borrow.Author.Tests.{eqb-true, eqb-false, ltb-true, ltb-false}
 use Rattle.rules.specs.Word.{Word, blank}
-use Rattle.rules.specs.Page.{Form, size, State, blank-word, all-blank}
-use Rattle.rules.specs.Store.{Setting, records, all-records, free-slot, active-index, active-slots, no-page, page-at, put-all, states, base, journal, settings}
-use Rattle.rules.specs.Call.{page-count, pages}
-use Rattle.rules.proofs.Cut.{page-within, pages-long}
+use Rattle.rules.specs.Page.{Form, State, blank-word, all-blank}
+use Rattle.rules.specs.Store.{Setting, records, all-records, free-slot, active-index, active-slots, page-at, put-all, states, journal, settings}
+use Rattle.rules.specs.Call.{pages, page-in}
 use Rattle.rules.proofs.Truth.{by-cases}
-use Rattle.rules.proofs.Stores.{length-states, count-all, all-records-append}
-use Rattle.rules.proofs.Ready.{right-sizes}
 use Rattle.rules.proofs.Settings.{settings-rising, put-all-append}
 use Rattle.rules.proofs.Slots.{FreeAt, free-at, records-append, blank-records}
 use Rattle.settings.specs.Held.{Holds, Become}
 use Rattle.survey.specs.States.{slots-in}
-use Rattle.survey.specs.Places.{at-places}
 use Rattle.survey.specs.declared.Look.{Look}
 use Rattle.survey.specs.Look.{pages-number, Lines, Told, Looks}
-use Rattle.survey.proofs.Line.{at-place}
 use Rattle.survey.proofs.Slots.{slots-are, slots-many}
-use Rattle.survey.proofs.Looking.{pages-sized}
+use Rattle.survey.proofs.Looking.{line-pages, line-few, line-places, line-within}
 use Rattle.store.specs.Gather.{gathered, Passes}
 
 -- ---- the slots before the free one
@@ -58,18 +53,14 @@ module _ {fm : Form} {i : List ℕ} {look : Look} (h : Looks fm i look) where
   passes-all : pages-number fm i ≡ 0 → Told fm i look → Passes fm i (look .line) (look .used) (look .free)
   unfolding active-slots
   passes-all ok t =
-      let sizes = right-sizes fm i (pages-sized fm i ok) in
-      let few : look .used ≤ 32 =
-      omega (arith, t .uses, count-all (base all) all, length-states (pages fm i), pages-long fm i, sizes .most) in
       let place : (k : ℕ) → k + 1 ≡ look .used → active-index all ≡ getD (look .line) k 0 =
       λ k e. sym (t .line .last) ∙ (let z : look .used - 1 ≡ k = omega arith in rw z) in
       record {
-        few = few;
+        few = line-few ok t;
         long = t .line .long;
         room = λ l. t .room;
-        places = λ k l. let w = t .line .within k l in let m = sizes .most in omega arith;
-        within = λ k l.
-            let w = page-within (size fm) (page-count fm i) (getD (look .line) k 0) (t .line .within k l) in let s = sizes .sized in omega arith;
+        places = line-places ok t;
+        within = line-within ok t;
         last = λ k e.
             let w = t .line .within k (omega arith) in
             t .free ∙ ap free-slot (ap (λ (j : ℕ). page-at j (pages fm i) .slots) (place k e) ∙ slots-are fm (getD (look .line) k 0) i w);
@@ -137,24 +128,11 @@ module _ (fm : Form) (i line : List ℕ) (k : ℕ) (l : k < length line) where
 -- ---- the line is that of the used pages, oldest first
 
 module _ (fm : Form) (i : List ℕ) where
-  one-page : (k : ℕ) → k < page-count fm i → all-records (take 1 (drop k (pages fm i))) ≡ records (slots-in fm k i)
-  unfolding at-places all-records
-  one-page k l =
-      let here : take 1 (drop k (pages fm i)) ≡ page-at k (pages fm i) ∷ [] =
-      sym (append-nil (take 1 (drop k (pages fm i)))) ∙ at-place (pages fm i) k no-page (omega (arith, pages-long fm i)) in
-      ap all-records here ∙ append-nil (records (page-at k (pages fm i) .slots)) ∙ ap records (slots-are fm k i l)
+  gathered-pages : (ks : List ℕ) → gathered fm i ks ≡ all-records (map (λ (k : ℕ). page-in fm k i) ks)
+  unfolding gathered all-records slots-in
+  gathered-pages [] = refl
+  gathered-pages (k ∷ ks) = ap (λ (rs : List Setting). records (slots-in fm k i) ++ rs) (gathered-pages ks)
 
-  gathered-pages : (ks : List ℕ) → ((k : ℕ) → k < length ks → getD ks k 0 < page-count fm i) → all-records (at-places (pages fm i) ks) ≡ gathered fm i ks
-  unfolding gathered at-places all-records
-  gathered-pages [] h = refl
-  gathered-pages (k ∷ ks) h =
-      all-records-append (take 1 (drop k (pages fm i))) (at-places (pages fm i) ks)
-      ∙ ap₂ (λ (xs ys : List Setting). xs ++ ys) (one-page k (h 0 (omega arith))) (gathered-pages ks (λ j l. h (suc j) (omega arith)))
-
-  pub gathered-settings : (line : List ℕ) (n : ℕ) → n ≤ length line → Lines fm i n line → put-all [] (gathered fm i (take n line)) ≡ settings (pages fm i)
+  pub gathered-settings : (line : List ℕ) (n : ℕ) → Lines fm i n line → put-all [] (gathered fm i (take n line)) ≡ settings (pages fm i)
   unfolding settings journal
-  gathered-settings line n l h =
-      let long : length (take n line) ≡ n = length-take-le n line l in
-      let inside : (k : ℕ) → k < length (take n line) → getD (take n line) k 0 < page-count fm i =
-      λ k g. rw (getD-take n line k 0 (omega arith)) (h .within k (omega arith)) in
-      ap (put-all []) (sym (gathered-pages (take n line) inside) ∙ ap all-records (h .used))
+  gathered-settings line n h = ap (put-all []) (gathered-pages (take n line) ∙ ap all-records (line-pages fm i h))

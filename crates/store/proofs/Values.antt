@@ -1,6 +1,6 @@
 -- What a store that was opened from an image, and is not refused, tells of the image's settings. Assumes nothing.
 use Prim.Native.Nat.{ℕ, _≤_, _<_}
-use mathlib.Core.Path.{_≡_, sym, _∙_}
+use mathlib.Core.Path.{_≡_, refl, sym, _∙_}
 use mathlib.Core.List.{List}
 use mathlib.Core.Option.{Option}
 use lib.ListN.{length}
@@ -9,9 +9,10 @@ use Rattle.rules.specs.Store.{Setting, Rising, settings, value, last-of}
 use Rattle.rules.specs.Call.{pages, store-number}
 use Rattle.rules.proofs.Held.{held-rising, held-few, value-is}
 use Rattle.settings.specs.Held.{Holds}
-use Rattle.survey.specs.Look.{Told}
+use Rattle.survey.specs.Look.{pages-number, Told}
 use Rattle.store.specs.declared.Store.{Store}
 use Rattle.store.specs.Opened.{Opens}
+use Rattle.store.proofs.Opening.{pages-ok}
 
 -- what a function tells of the value of an address, whatever rising table the arrays hold
 abbrev pub Finds : {A : Type 0} → (addresses values : List ℕ) → (address : ℕ) → (List Setting → A) → A → Type 0
@@ -26,6 +27,9 @@ module _ {fm : Form} {i : List ℕ} {s : Store} {xs ys : List ℕ} (o : Opens fm
 
   pub held-is : s .held ≡ length (settings (pages fm i))
   held-is = o .holding z .holds .few-held table-few
+
+  pub pages-accepted : pages-number fm i ≡ 0
+  pages-accepted = pages-ok fm i (pages-number fm i) refl store-ok
 
   pub look-told : Told fm i (s .look)
   look-told = o .holding z .told

@@ -1,22 +1,24 @@
 -- What one look at an image tells, from what the functions counted. Assumes nothing.
-use Prim.Native.Nat.{ℕ, _+_, _-_, _*_, _≤_, _<_}
-use mathlib.Core.Path.{_≡_, refl, sym, ap, _∙_, subst}
+use Prim.Native.Nat.{ℕ, suc, _+_, _-_, _*_, _≤_, _<_}
+use mathlib.Core.Path.{_≡_, refl, sym, ap, ap₂, _∙_, subst}
 use mathlib.Core.Bool.{Bool, true, false, cond, _||_}
-use mathlib.Core.List.{List, map, _++_}
+use mathlib.Core.List.{List, [], _∷_, map, _++_, append-nil}
 use native.Mathlib.Omega.{arith}
 use lib.ListN.{length, getD, take, drop, length-append}
-use lib.Seq.{getD-take}
+use lib.Seq.{getD-take, length-take-le}
 use lib.Dec.{eqb}
 use borrow.Author.Tests.{eqb-true, eqb-false, eq-eqb, ne-eqb}
-use Rattle.rules.specs.Page.{Form, size, State, bad}
+use Rattle.rules.specs.Page.{Form, size, State, bad, Page}
 use Rattle.rules.specs.Store.{Under, states, base, used, is-open, is-cleared, used-orders, count, active-index, active-order, active-slots, page-at, free-slot}
+use Rattle.rules.specs.Store.{used-pages, oldest-first, no-page}
 use Rattle.rules.specs.Steps.{unclean}
-use Rattle.rules.specs.Call.{first-of, page-count, pages, wrong-size, no-store, repeats, all-used, OK, NO-STORE, DAMAGED}
+use Rattle.rules.specs.Call.{first-of, page-count, pages, page-in, wrong-size, no-store, repeats, all-used, OK, NO-STORE, DAMAGED}
 use Rattle.rules.proofs.Cut.{page-within, pages-long}
 use Rattle.rules.proofs.Truth.{by-cases, or-false-left}
 use Rattle.rules.proofs.Rows.{AllFail, all-fail}
 use Rattle.rules.proofs.Stores.{length-states, orders-used, count-all, count-open, count-used}
-use Rattle.rules.proofs.Ready.{right-sizes, some-used}
+use Rattle.rules.proofs.Told.{page-cut}
+use Rattle.rules.proofs.Ready.{Sizes, right-sizes, some-used}
 use Rattle.pages.specs.Read.{as-state}
 use Rattle.pages.specs.declared.State.{State as Code}
 use Rattle.survey.specs.States.{Counted, first-states, padded, OrdersFit, slots-in}
@@ -31,7 +33,7 @@ use Rattle.survey.proofs.States.{states-looked, fit-padded, base-padded
 use Rattle.survey.proofs.Ranks.{ranks-padded, ranks-whole, ranks-under, spares-padded}
 use Rattle.survey.proofs.Counts.{count-ranks, count-spares, repeats-ranks}
 use Rattle.survey.proofs.Active.{active-newest, active-rank, active-below, active-inside}
-use Rattle.survey.proofs.Line.{length-lined, lined-last, first-places, under-at, Lists, lists}
+use Rattle.survey.proofs.Line.{at-place, length-lined, lined-last, first-places, under-at, Lists, lists}
 use Rattle.survey.proofs.Slots.{slots-are}
 
 -- ---- the number
@@ -240,6 +242,42 @@ module _ {fm : Form} {i : List ℕ} {n u : ℕ} {xs : List Code} {rs : List ℕ}
 
     pub cleared-told : {c : ℕ} → c ≡ taken-places (take 32 sp) → c ≡ count is-cleared all
     cleared-told q = q ∙ ap (λ (ys : List ℕ). taken-places (take 32 ys)) spares-told ∙ count-spares all few
+
+-- ---- what the line tells
+
+-- the pages at the places of the line are the used ones, the oldest first
+module _ (fm : Form) (i : List ℕ) where
+  placed : (ks : List ℕ) → ((k : ℕ) → k < length ks → getD ks k 0 < page-count fm i) → at-places (pages fm i) ks ≡ map (λ (k : ℕ). page-in fm k i) ks
+  unfolding at-places pages
+  placed [] h = refl
+  placed (k ∷ ks) h =
+      let l = h 0 (omega arith) in
+      ap₂ (λ (xs ys : List Page). xs ++ ys)
+      (sym (append-nil (take 1 (drop k (pages fm i)))) ∙ at-place (pages fm i) k no-page (omega (arith, pages-long fm i))
+      ∙ ap (λ (p : Page). p ∷ []) (page-cut fm (page-count fm i) k i l))
+      (placed ks (λ j m. h (suc j) (omega arith)))
+
+  pub line-pages : {n : ℕ} {line : List ℕ} → Lines fm i n line
+      → map (λ (k : ℕ). page-in fm k i) (take n line) ≡ oldest-first (used-pages (base (states (pages fm i))) (pages fm i))
+  line-pages {n} {line} h =
+      let long : length (take n line) ≡ n = length-take-le n line (h .long) in
+      sym (placed (take n line) (λ k g. rw (getD-take n line k 0 (omega arith)) (h .within k (omega arith)))) ∙ h .used
+
+-- and they lie in the image
+module _ {fm : Form} {i : List ℕ} {look : Look} (ok : pages-number fm i ≡ 0) (t : Told fm i look) where
+  sizes : Sizes fm i
+  sizes = right-sizes fm i (pages-sized fm i ok)
+
+  pub line-few : look .used ≤ 32
+  line-few =
+      let all = states (pages fm i) in
+      omega (arith, t .uses, count-all (base all) all, length-states (pages fm i), pages-long fm i, sizes .most)
+
+  pub line-places : (k : ℕ) → k < look .used → getD (look .line) k 0 < 32
+  line-places k l = omega (arith, t .line .within k l, sizes .most)
+
+  pub line-within : (k : ℕ) → k < look .used → getD (look .line) k 0 * size fm + size fm ≤ length i
+  line-within k l = omega (arith, page-within (size fm) (page-count fm i) (getD (look .line) k 0) (t .line .within k l), sizes .sized)
 
 -- each page is used, cleared or unclean
 pub counted : {fm : Form} {i : List ℕ} {look : Look} → Told fm i look

@@ -1,11 +1,12 @@
 -- The words of a list of bytes, one by one: the rules cut them all at once, the code reads one at its offset. Assumes nothing.
 use Prim.Native.Nat.{ℕ, zero, suc, _+_, _*_, _/_, _≤_}
 use mathlib.Core.Path.{_≡_, refl}
-use mathlib.Core.List.{List, [], _∷_}
+use mathlib.Core.List.{List, [], _∷_, _++_}
 use native.Mathlib.Omega.{arith}
 use native.Mathlib.Nat.{add-assoc}
-use lib.ListN.{length, getD, drop}
-use lib.Seq.{getD-drop}
+use native.Mathlib.Numerals.{add-one}
+use lib.ListN.{length, getD, take, drop}
+use lib.Seq.{getD-drop, take-suc, take-all}
 use Rattle.rules.specs.Word.{words}
 use Rattle.rules.specs.Page.{blank-word}
 use Rattle.rules.proofs.Cut.{next-words}
@@ -43,6 +44,13 @@ length-words (a ∷ []) = refl
 length-words (a ∷ b ∷ []) = refl
 length-words (a ∷ b ∷ c ∷ []) = refl
 length-words (a ∷ b ∷ c ∷ d ∷ s) = let e = length-words s in omega arith
+
+-- one word more, and all of them
+pub next-word : (s : List ℕ) (k : ℕ) → 4 * k + 4 ≤ length s → take (k + 1) (words s) ≡ take k (words s) ++ (word-in s (4 * k) ∷ [])
+next-word s k l = rw (add-one k, take-suc (words s) k blank-word (omega (arith, length-words s)), word-of s k l)
+
+pub all-words : (s : List ℕ) (k : ℕ) → length s / 4 ≤ k → take k (words s) ≡ words s
+all-words s k l = take-all k (words s) (omega (arith, length-words s))
 
 -- a cut between two words cuts the words
 pub drop-words : (k : ℕ) (s : List ℕ) → words (drop (4 * k) s) ≡ drop k (words s)

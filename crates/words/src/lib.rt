@@ -1,9 +1,13 @@
-// Words of four bytes: the check, the makers and the readers (section W).
+// Words of four bytes: the check, the makers and the readers, and what a word in a slot is (section W).
 ghost use mathlib.Core.Path.{_≡_};
 ghost use Prim.Native.Nat.{_+_, _≤_, _<_};
 ghost use lib.ListN.{length};
-ghost use Rattle.rules.specs.Word.{zeros, check, sound, blank, low16, low24, checked, wear-word, number-word, opening-word, done-word, record-word};
-ghost use Rattle.words.specs.Read.{as-word, word-in};
+ghost use Rattle.rules.specs.Word.{zeros, check, sound, blank, second-blank, slot-condition, low16, low24};
+ghost use Rattle.rules.specs.Word.{checked, wear-word, number-word, opening-word, done-word, record-word};
+ghost use Rattle.words.specs.Read.{as-word, as-condition, word-in};
+
+// W11. No record has this address.
+pub const NO_ADDRESS: u16 = 65535;
 
 pub struct Word {
     pub a: u8,
@@ -49,6 +53,16 @@ pub fn is_blank(w: Word) -> bool
     if w.b != 255 {
         return false;
     }
+    if w.c != 255 {
+        return false;
+    }
+    w.d == 255
+}
+
+// W13. Whether the second half is 65,535.
+fn is_second_blank(w: Word) -> bool
+    ensures { λ r. ⌜ r ≡ second-blank (as-word w) ⌝ }
+{
     if w.c != 255 {
         return false;
     }
@@ -123,4 +137,32 @@ pub fn low24(w: Word) -> u32
     ensures { λ r. ⌜ r ≡ low24 (as-word w) ⌝ }
 {
     w.a as u32 + 256 * (w.b as u32) + 65536 * (w.c as u32)
+}
+
+// The four kinds of word.
+pub enum Condition {
+    Sound,
+    Blank,
+    HalfWritten,
+    Spoiled,
+}
+
+// Which kind a word in a slot is: no other code tells them apart. The cheap test comes first: a word without an address is blank
+// there, or spoiled.
+pub fn slot_condition(w: Word) -> Condition
+    ensures { λ r. ⌜ as-condition r ≡ slot-condition (as-word w) ⌝ }
+{
+    if low16(w) == NO_ADDRESS {
+        if is_blank(w) {
+            return Condition::Blank;
+        }
+        return Condition::Spoiled;
+    }
+    if is_sound(w) {
+        return Condition::Sound;
+    }
+    if is_second_blank(w) {
+        return Condition::HalfWritten;
+    }
+    Condition::Spoiled
 }

@@ -1,5 +1,6 @@
 -- `lines::list` meets its contract: an accepted image is listed, a refused one's number is told. Assumes nothing.
 use Prim.Native.Nat.{ℕ, _≤_}
+use mathlib.Core.Path.{_≡_}
 use mathlib.Core.List.{List, _++_}
 use native.Mathlib.Omega.{arith}
 use denote.Ref.{now}
@@ -8,12 +9,14 @@ use borrow.Author.Needs.{needs}
 use Rattle.rules.specs.Page.{Form}
 use Rattle.rules.specs.Store.{settings}
 use Rattle.rules.specs.Call.{pages}
-use Rattle.rules.specs.Listing.{decimal, text-refused, line-end, setting-lines}
+use Rattle.rules.specs.Listing.{decimal, text-refused, line-end, used-conditions, setting-lines}
 use Rattle.pages.specs.Read.{as-form}
 use Rattle.settings.proofs.Tables.{holds-none}
 use Rattle.store.specs.declared.Store.{Store}
 use Rattle.store.specs.Opened.{Opens}
-use Rattle.store.proofs.Values.{look-told}
+use Rattle.store.proofs.Values.{pages-accepted, look-told}
+use Rattle.broken.specs.declared.Broken.{Broken}
+use Rattle.broken.specs.Counts.{Counts}
 use Rattle.lines.proofs.Decimal.{decimal-length}
 use Rattle.lines.proofs.Appending.{appends-then, appends-written}
 use Rattle.lines.proofs.Told.{told-pages, told-held, told-line-length, first, listing-room, listing-accepted, listing-refused}
@@ -57,21 +60,41 @@ returns c =
     let room : length (text-refused ++ decimal n ++ line-end) ≤ length (buffer o) = simp length-append (omega arith) in
     rw (← listing-refused (form o) (image o) n (opens o .number) (refused .if1 .taken)) (appends-written room (c .before .before .put-refused .ensures))
 
+-- an image that is not refused, its broken words counted
+module _ (c : tie.After-count) where
+  abbrev opened : tie.After-open
+  opened = c .before .before .before
+
+  right : store opened .number ≡ 0
+  right = c .before .before .if1 .left
+
+  abbrev broken : Broken
+  broken = c .count .result
+
+  counts : Counts (used-conditions (pages (form opened) (image opened))) broken
+  counts = c .count .ensures .0
+
+count-requires : tie.Need-count-requires
+count-requires c κs =
+    let o = c .before .before in
+    let z = c .before .if1 .left in
+    (entry o .pre .0, (pages-accepted (opens o) z, look-told (opens o) z))
+
 put-first-requires : tie.Need-put-first-requires
 put-first-requires c κs =
-    let right = c .before in
-    let o = opens (right .before) in
-    let z = right .if1 .left in
-    let p = told-pages o z in
-    ((p .0, p .1, p .2, look-told o z .fits, told-held o z), omega arith)
+    let k = c .before in
+    let o = opens (opened k) in
+    let p = told-pages o (right k) in
+    ((p .0, p .1, p .2, look-told o (right k) .fits, told-held o (right k), k .count .ensures .1), omega arith)
 
 put-settings-requires : tie.Need-put-settings-requires
 put-settings-requires c κs =
-    let right = c .before .before .before .before .before .before .before in
-    let s = store (right .before) in
+    let k = c .before .before .before .before .before .before .before in
+    let s = store (opened k) in
     let l = s .look in
-    let few = told-held (opens (right .before)) (right .if1 .left) in
-    (few, omega (arith, told-line-length (l .count) (l .used) (l .cleared) (l .order) (s .held)))
+    let b = broken k in
+    let few = told-held (opens (opened k)) (right k) in
+    (few, omega (arith, told-line-length (l .count) (l .used) (l .cleared) (l .order) (s .held) (b .half) (b .spoiled)))
 
 same-length-2 : tie.Need-same-length-2
 same-length-2 c = search needs
@@ -79,14 +102,17 @@ same-length-2 c = search needs
 returns-2 : tie.Need-returns-2
 returns-2 c =
     let first-put = c .before .before .before .before .before .before .before .before in
-    let right = first-put .before .before in
-    let o = right .before in
-    let z = right .if1 .left in
-    let fits = listing-room (opens o) z in
-    let room : length (first (opens o) z ++ setting-lines (settings (pages (form o) (image o)))) ≤ length (buffer o) = omega arith in
+    let k = first-put .before .before in
+    let o = opened k in
+    let z = right k in
+    let fits = listing-room (opens o) z (counts k) in
+    let lines = setting-lines (settings (pages (form o) (image o))) in
+    let room : length (first (opens o) z (counts k) ++ lines) ≤ length (buffer o) = omega arith in
     let rest = c .before .before .put-settings .ensures (settings (pages (form o) (image o))) (opens o .holding z .holds) in
-    rw (← listing-accepted (opens o) z) (appends-written room (appends-then (first-put .put-first .ensures) rest))
+    rw (← listing-accepted (opens o) z (counts k))
+    (appends-written room (appends-then {s = first (opens o) z (counts k)} (first-put .put-first .ensures) rest))
 
 pub list-spec : {M : Type 1} → statement M
 list-spec =
-    tie.close (tie.spec open-requires put-refused-requires same-length returns put-first-requires put-settings-requires same-length-2 returns-2)
+    tie.close (tie.spec open-requires put-refused-requires same-length returns count-requires put-first-requires put-settings-requires same-length-2
+    returns-2)

@@ -2,14 +2,13 @@
 use native.Mathlib.Omega.{arith}
 use Rattle.rules.specs.Listing.{decimal, text-held}
 use Rattle.lines.specs.Appended.{order-part}
-use Rattle.lines.proofs.Appending.{appends-then, appends-field}
+use Rattle.lines.proofs.Appending.{appends-field}
 use Rattle.lines.proofs.Decimal.{decimal-length}
 use borrow.Author.Needs.{needs}
 use Rattle.lines.proofs.put_order.Statement.{statement}
 use Rattle.lines.proofs.put_order.Tie as tie
 use Rattle.lines.proofs.put_order.Reads as reads
 use Rattle.lines.proofs.put_order.Lts as lts
-use Rattle.lines.proofs.put_byte.Reads as put-byte-reads
 use Rattle.lines.proofs.put_field.Reads as put-field-reads
 
 slice-aggregate-put-field : tie.Need-slice-aggregate-put-field
@@ -24,21 +23,16 @@ slice-aggregate-put-field-2 c = search needs
 put-field-requires-2 : tie.Need-put-field-requires-2
 put-field-requires-2 c κs = (omega arith, omega (arith, decimal-length (c .before .before .before .before .before .before .before .before .args .order)))
 
-put-byte-requires : tie.Need-put-byte-requires
-put-byte-requires c κs = let a = c .before .before .before .before .before .before .before .before .before .before .before .before .args in
-    omega (arith, decimal-length (a .order), decimal-length (a .held))
-
 same-length : tie.Need-same-length
 same-length c = search needs
 
 returns : tie.Need-returns
 unfolding order-part
-returns c = let a = c .before .before .before .before .before .before .before .before .before .before .before .before .before .before .before .args in
-    let f1 = c .before .before .before .before .before .before .before .before .before .before .before .put-field .ensures in
-    let f2 = c .before .before .before .before .before .before .put-field2 .ensures in
-    appends-then (appends-field text-held (decimal (a .held)) f1 f2) (c .before .before .put-byte .ensures)
+returns c =
+    let a = c .before .before .before .before .before .before .before .before .before .before .before .args in
+    let f1 = c .before .before .before .before .before .before .before .put-field .ensures in
+    appends-field text-held (decimal (a .held)) f1 (c .before .before .put-field2 .ensures)
 
 pub put-order-spec : {M : Type 1} → statement M
 put-order-spec =
-    tie.close (tie.spec slice-aggregate-put-field put-field-requires slice-aggregate-put-field-2 put-field-requires-2 put-byte-requires same-length
-    returns)
+    tie.close (tie.spec slice-aggregate-put-field put-field-requires slice-aggregate-put-field-2 put-field-requires-2 same-length returns)

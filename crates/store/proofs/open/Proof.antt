@@ -55,8 +55,7 @@ module _ (c : tie.After-number-of) where
 
   holds : look .number ≡ 0 → Holds addresses values held (settings (pages form image))
   holds z =
-      let line = looks .told z .line in
-      subst (Holds addresses values held) (gathered-settings form image (look .line) (look .used) (line .long) line) (c .before .gather .ensures)
+      subst (Holds addresses values held) (gathered-settings form image (look .line) (look .used) (looks .told z .line)) (c .before .gather .ensures)
 
   number : c .number-of .result ≡ store-number form image
   number =

@@ -1,0 +1,94 @@
+// The words that broke (L6): how many slots of the used pages are half-written, and how many are spoiled.
+use pages::Form;
+use pages::HEADER_SIZE;
+use survey::Look;
+use words::Condition;
+use words::Word;
+ghost use mathlib.Core.Path.{_≡_};
+ghost use mathlib.Core.List.{[], _∷_, map};
+ghost use Prim.Native.Nat.{_+_, _*_, _/_, _≤_};
+ghost use lib.ListN.{length};
+ghost use Rattle.rules.specs.Word.{words, slot-condition};
+ghost use Rattle.rules.specs.Page.{size};
+ghost use Rattle.rules.specs.Call.{pages};
+ghost use Rattle.rules.specs.Listing.{used-conditions};
+ghost use Rattle.words.specs.Read.{as-word};
+ghost use Rattle.pages.specs.Read.{as-form, Lawful};
+ghost use Rattle.survey.specs.States.{slots-in};
+ghost use Rattle.survey.specs.Look.{pages-number, Told};
+ghost use Rattle.broken.specs.Counts.{Counts};
+
+pub struct Broken {
+    pub half: usize,
+    pub spoiled: usize,
+}
+
+impl Broken {
+    fn of(half: usize, spoiled: usize) -> Broken
+        ensures { λ r. ⌜ (r .half ≡ half) × (r .spoiled ≡ spoiled) ⌝ }
+    {
+        Broken { half, spoiled }
+    }
+
+    // Both together.
+    fn and(self, other: Broken) -> Broken
+        requires { ⌜ (self .half + other .half ≤ 65535) × (self .spoiled + other .spoiled ≤ 65535) ⌝ }
+        ensures { λ r. ⌜ (r .half ≡ self .half + other .half) × (r .spoiled ≡ self .spoiled + other .spoiled) ⌝ }
+    {
+        Broken::of(self.half + other.half, self.spoiled + other.spoiled)
+    }
+}
+
+// What one slot counts for.
+fn of_slot(w: Word) -> Broken
+    ensures { λ r. ⌜ Counts (slot-condition (as-word w) ∷ []) r ⌝ }
+{
+    match words::slot_condition(w) {
+        Condition::Sound => Broken::of(0, 0),
+        Condition::Blank => Broken::of(0, 0),
+        Condition::HalfWritten => Broken::of(1, 0),
+        Condition::Spoiled => Broken::of(0, 1),
+    }
+}
+
+// The slots of a page.
+fn of_slots(slots: &[u8]) -> Broken
+    requires { ⌜ length (now slots) ≤ 2048 ⌝ }
+    ensures { λ r. ⌜ Counts (map slot-condition (words (now (slots .entry)))) r ⌝ }
+{
+    let count = slots.len() / 4;
+    let mut broken = Broken::of(0, 0);
+    let mut k = 0;
+    while k < count {
+        broken = broken.and(of_slot(words::word_at(slots, 4 * k)));
+        k += 1;
+    }
+    broken
+}
+
+// The same of the page at an index.
+fn of_page(image: &[u8], form: Form, page: usize) -> Broken
+    requires { ⌜ Lawful form × (page ≤ 32) × (page * size (as-form form) + size (as-form form) ≤ length (now image)) ⌝ }
+    ensures { λ r. ⌜ Counts (map slot-condition (slots-in (as-form form) page (now (image .entry)))) r ⌝ }
+{
+    let at = form.start(page) + HEADER_SIZE;
+    let end = at + form.slots * 4;
+    of_slots(&image[at..end])
+}
+
+// The used pages of an image that is not refused, after one look at it.
+pub fn count(image: &[u8], form: Form, look: Look) -> Broken
+    requires { ⌜ Lawful form ⌝ }
+    requires { ⌜ (pages-number (as-form form) (now image) ≡ 0) × Told (as-form form) (now image) look ⌝ }
+    ensures { λ r. ⌜ Counts (used-conditions (pages (as-form form) (now (image .entry)))) r ⌝ }
+    ensures { λ r. ⌜ r .half + r .spoiled ≤ 16288 ⌝ }
+{
+    let line = look.line;
+    let mut broken = Broken::of(0, 0);
+    let mut k = 0;
+    while k < look.used {
+        broken = broken.and(of_page(image, form, line[k] as usize));
+        k += 1;
+    }
+    broken
+}

@@ -1,0 +1,78 @@
+-- Laws of the broken words: they are counted page by page, whatever the order of the pages, and no slot twice. Assumes nothing.
+use Prim.Native.Nat.{ℕ, suc, _+_, _*_, _≤_}
+use mathlib.Core.Path.{_≡_, refl, sym, ap, _∙_}
+use mathlib.Core.Bool.{Bool}
+use mathlib.Core.List.{List, [], _∷_, _++_, map, append-assoc}
+use native.Mathlib.Nat.{zero-mul, suc-mul}
+use native.Mathlib.Omega.{arith}
+use lib.ListN.{length, length-append, length-map, length-drop}
+use lib.Dec.{leb}
+use Rattle.rules.specs.Word.{Word, Condition, Sound, Blank, HalfWritten, Spoiled, slot-condition}
+use Rattle.rules.specs.Page.{Page, page, slots, state}
+use Rattle.rules.specs.Store.{states, base, used, order, add-page, used-pages, insert, oldest-first, count}
+use Rattle.rules.specs.Listing.{is-half, is-spoiled, conditions, used-conditions}
+use Rattle.rules.proofs.Truth.{by-cases}
+use Rattle.rules.proofs.Cut.{AllLength}
+
+pub count-append : {A : Type 0} (test : A → Bool) (xs ys : List A) → count test (xs ++ ys) ≡ count test xs + count test ys
+unfolding count
+count-append test [] ys = omega arith
+count-append test (x ∷ xs) ys = omega (arith, count-append test xs ys)
+
+pub conditions-append : (xs ys : List Page) → conditions (xs ++ ys) ≡ conditions xs ++ conditions ys
+unfolding conditions
+conditions-append [] ys = refl
+conditions-append (p ∷ xs) ys =
+    ap (λ (cs : List Condition). map slot-condition (p .slots) ++ cs) (conditions-append xs ys)
+    ∙ sym (append-assoc (map slot-condition (p .slots)) (conditions xs) (conditions ys))
+
+-- ---- in any order
+
+module _ (test : Condition → Bool) where
+  next-counted : (p : Page) (ps : List Page) → count test (conditions (p ∷ ps)) ≡ count test (map slot-condition (p .slots)) + count test (conditions ps)
+  unfolding conditions
+  next-counted p ps = count-append test (map slot-condition (p .slots)) (conditions ps)
+
+  insert-counted : (p : Page) (qs : List Page) → count test (conditions (insert p qs)) ≡ count test (conditions (p ∷ qs))
+  unfolding insert
+  insert-counted p [] = refl
+  insert-counted p (q ∷ qs) =
+      by-cases (leb (order (p .state)) (order (q .state))) (λ t. rw t)
+      (λ t.
+      rw t
+      (omega (arith, next-counted q (insert p qs), insert-counted p qs, next-counted p qs, next-counted p (q ∷ qs), next-counted q qs)))
+
+  oldest-counted : (ps : List Page) → count test (conditions (oldest-first ps)) ≡ count test (conditions ps)
+  unfolding oldest-first
+  oldest-counted [] = refl
+  oldest-counted (p ∷ ps) =
+      omega (arith, insert-counted p (oldest-first ps), next-counted p (oldest-first ps), oldest-counted ps, next-counted p ps)
+
+  -- the used pages have so many, the oldest first or by index
+  pub used-counted : (ps : List Page) → count test (conditions (oldest-first (used-pages (base (states ps)) ps))) ≡ count test (used-conditions ps)
+  unfolding used-conditions
+  used-counted ps = oldest-counted (used-pages (base (states ps)) ps)
+
+-- ---- so many at most
+
+pub broken-few : (cs : List Condition) → count is-half cs + count is-spoiled cs ≤ length cs
+unfolding count is-half is-spoiled
+broken-few [] = omega arith
+broken-few (Sound ∷ cs) = omega (arith, broken-few cs)
+broken-few (Blank ∷ cs) = omega (arith, broken-few cs)
+broken-few (HalfWritten ∷ cs) = omega (arith, broken-few cs)
+broken-few (Spoiled ∷ cs) = omega (arith, broken-few cs)
+
+-- every used page has n slots
+pub used-many : (edition n b : ℕ) (F : List (List Word)) → AllLength (suc (suc (suc n))) F
+    → length (conditions (used-pages b (map (page edition) F))) ≡ count (used b) (states (map (page edition) F)) * n
+unfolding AllLength used-pages add-page conditions states count page slots
+used-many edition n b [] h = sym (zero-mul n)
+used-many edition n b (pg ∷ F) h =
+    let rest = used-many edition n b F (h .1) in
+    let behind = conditions (used-pages b (map (page edition) F)) in
+    let k = count (used b) (states (map (page edition) F)) in
+    let here : length (map slot-condition (slots pg)) ≡ n = length-map (slots pg) slot-condition ∙ length-drop 3 pg ∙ (let l = h .0 in omega arith) in
+    by-cases (used b (state edition pg))
+    (λ u. rw u (omega (arith, length-append (map slot-condition (slots pg)) behind, suc-mul k n)))
+    (λ u. let e : k ≡ 0 + k = omega arith in rw u (rest ∙ ap (λ (m : ℕ). m * n) e))
