@@ -7,5 +7,5 @@ use Rattle.rules.specs.Listing.{is-half, is-spoiled}
 use Rattle.broken.specs.declared.Broken.{Broken}
 
 pub record Counts (cs : List Condition) (r : Broken) : Type 0 where
-  pub halves : r .half ≡ count is-half cs
-  pub spoileds : r .spoiled ≡ count is-spoiled cs
+  pub half : r .half ≡ count is-half cs
+  pub spoiled : r .spoiled ≡ count is-spoiled cs

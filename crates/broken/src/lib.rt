@@ -76,7 +76,8 @@ fn of_page(image: &[u8], form: Form, page: usize) -> Broken
     of_slots(&image[at..end])
 }
 
-// The used pages of an image that is not refused, after one look at it.
+// The used pages of an image that is not refused, after one look at it. 32 pages of 509 slots, the most that a lawful form has, are
+// 16,288 slots.
 pub fn count(image: &[u8], form: Form, look: Look) -> Broken
     requires { ⌜ Lawful form ⌝ }
     requires { ⌜ (pages-number (as-form form) (now image) ≡ 0) × Told (as-form form) (now image) look ⌝ }

@@ -10,9 +10,7 @@ use Rattle.rules.specs.Store.{states, base, used, is-cleared, active-order, cou
 use Rattle.rules.specs.Call.{pages, store-number, accepted}
 use Rattle.rules.specs.Listing.{decimal, text-pages, text-used, text-cleared, text-order, text-held, text-half, text-spoiled, text-refused, line-end}
 use Rattle.rules.specs.Listing.{used-conditions, half, spoiled, first-line, setting-lines, listing}
-use Rattle.rules.proofs.Stores.{length-states, count-all}
 use Rattle.rules.proofs.Answers.{not-accepted}
-use Rattle.rules.proofs.Ready.{size-right, right-sizes}
 use Rattle.rules.proofs.Cut.{pages-long}
 use Rattle.survey.specs.Look.{Told}
 use Rattle.store.specs.declared.Store.{Store}
@@ -60,19 +58,6 @@ module _ {fm : Form} {i : List ℕ} {r : Store} {xs ys : List ℕ} (o : Opens fm
   told : Told fm i (r .look)
   told = look-told o z
 
-  -- its numbers fit
-  pub told-pages : (r .look .count ≤ 32) × (r .look .used ≤ 32) × (r .look .cleared ≤ 32)
-  told-pages =
-      let all = states (pages fm i) in
-      let most = right-sizes fm i (size-right fm i (store-ok o z)) .most in
-      let n = told .counts in
-      let u = told .uses in
-      let c = told .clears in
-      let e = count-all (base all) all in
-      let l = length-states (pages fm i) in
-      let p = pages-long fm i in
-      (omega arith, omega arith, omega arith)
-
   pub told-held : r .held ≤ 192
   told-held = omega (arith, held-is o z, table-few o z)
 
@@ -85,7 +70,7 @@ module _ {fm : Form} {i : List ℕ} {r : Store} {xs ys : List ℕ} (o : Opens fm
     told-first =
         let all = states (pages fm i) in
         let n : r .look .count ≡ length (pages fm i) = told .counts ∙ sym (pages-long fm i) in
-        rw (n, told .uses, told .clears, told .order, held-is o z, counts .halves, counts .spoileds)
+        rw (n, told .uses, told .clears, told .order, held-is o z, counts .half, counts .spoiled)
         (joined
         (text-pages ++ decimal (length (pages fm i)) ++ text-used ++ decimal (count (used (base all)) all)
         ++ text-cleared ++ decimal (count is-cleared all))

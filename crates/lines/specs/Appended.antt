@@ -5,7 +5,7 @@ use mathlib.Core.List.{List, _++_}
 use lib.ListN.{length, take, drop}
 use lib.Seq.{sets}
 use Rattle.rules.specs.Listing.{decimal, text-pages, text-used, text-cleared, text-order, text-held, text-half, text-spoiled}
-use Rattle.rules.specs.Listing.{space, line-end}
+use Rattle.rules.specs.Listing.{line-end}
 
 -- The text stands in the buffer from a place on, and all else is as it was; r is the place behind it.
 pub record Appends (before : List ℕ) (at : ℕ) (text after : List ℕ) (r : ℕ) : Type 0 where
@@ -31,7 +31,3 @@ broken-part half spoiled = text-half ++ decimal half ++ text-spoiled ++ decimal 
 
 unfoldable pub told-line : (count used cleared order held half spoiled : ℕ) → List ℕ
 told-line count used cleared order held half spoiled = pages-part count used cleared ++ order-part order held ++ broken-part half spoiled
-
--- the line of one setting
-unfoldable pub setting-line : (address value : ℕ) → List ℕ
-setting-line a v = decimal a ++ space ++ decimal v ++ line-end

@@ -9,11 +9,11 @@ use survey::OK;
 ghost use mathlib.Core.List.{List, [], _∷_, _++_};
 ghost use Prim.Native.Nat.{_+_, _*_, _≤_, _<_};
 ghost use lib.ListN.{length};
-ghost use Rattle.rules.specs.Store.{Setting};
-ghost use Rattle.rules.specs.Listing.{decimal, text-refused, line-end, setting-lines, listing};
+ghost use Rattle.rules.specs.Store.{Setting, setting};
+ghost use Rattle.rules.specs.Listing.{decimal, text-refused, line-end, setting-line, setting-lines, listing};
 ghost use Rattle.pages.specs.Read.{as-form, Lawful};
 ghost use Rattle.settings.specs.Held.{Holds};
-ghost use Rattle.lines.specs.Appended.{Appends, Written, pages-part, order-part, broken-part, told-line, setting-line};
+ghost use Rattle.lines.specs.Appended.{Appends, Written, pages-part, order-part, broken-part, told-line};
 
 fn put_byte(out: &mut [u8], at: usize, byte: u8) -> usize
     requires { ⌜ at < length (now out) ⌝ }
@@ -59,7 +59,7 @@ fn put_field(out: &mut [u8], at: usize, text: &[u8], n: u32) -> usize
 // The line of one setting.
 fn put_setting(out: &mut [u8], at: usize, address: u16, value: u8) -> usize
     requires { ⌜ at + 18 ≤ length (now out) ⌝ }
-    ensures { λ r. ⌜ Appends (now (out .entry)) at (setting-line address value) (now (out .exit)) r ⌝ }
+    ensures { λ r. ⌜ Appends (now (out .entry)) at (setting-line (setting address value)) (now (out .exit)) r ⌝ }
 {
     let behind_address = put_number(out, at, address as u32);
     let behind_value = put_field(out, behind_address, b" ", value as u32);

@@ -2,8 +2,10 @@
 use Prim.Native.Nat.{ℕ, _/_, _%_, _<_}
 use mathlib.Core.Path.{_≡_, sym}
 use mathlib.Core.Bool.{Bool, true, false, _&&_}
+use native.Mathlib.Nat.{div-add-mod'}
 use native.Mathlib.Omega.{arith}
 use lib.Dec.{eqb}
+use lib.ListN.{length}
 use borrow.Author.Tests.{eqb-true}
 use Rattle.rules.specs.Flash.{Rises}
 use Rattle.rules.specs.Word.{Word, word, check, sound, blank, second-blank, Sound, HalfWritten, Spoiled, condition, low16, checked, record-word}
@@ -16,7 +18,6 @@ use Rattle.rules.proofs.Truth.{is-false, and-left, and-right}
 use Rattle.rules.proofs.Words.{half-not-sound, torn-sound, record-sound, split16}
 use Rattle.rules.proofs.Conditions.{record-told, other-told}
 use Rattle.rules.proofs.Cut.{cut-all-length}
-use Rattle.rules.proofs.Ready.{right-sizes}
 use Rattle.rules.proofs.Broken.{broken-few, used-many}
 use Rattle.promise.specs.Corollaries.{a-cut-record-says-how-far-it-came, no-slot-counts-twice}
 
@@ -55,13 +56,13 @@ pub how-far : a-cut-record-says-how-far-it-came
 how-far = record { not-begun = not-begun; broke-later = broke-later; whole = whole }
 
 pub counted-once : no-slot-counts-twice
-unfolding half spoiled used-conditions pages
-counted-once fm i w =
+unfolding half spoiled used-conditions pages page-count
+counted-once fm i =
     let ps = pages fm i in
     let b = base (states ps) in
     omega (
       arith,
       broken-few (used-conditions ps),
       used-many (fm .edition) (fm .slot-count) b (cut (size fm) (page-count fm i) i)
-          (cut-all-length (word-count fm) (page-count fm i) i (right-sizes fm i w .sized)),
+          (cut-all-length (word-count fm) (page-count fm i) i (omega (arith, div-add-mod' (length i) (size fm)))),
     )

@@ -13,7 +13,7 @@ use Rattle.rules.specs.Word.{second-blank, slot-condition, word-steps, words}
 use Rattle.rules.specs.Page.{Form, size, wear-part, opening-part, done-part, slots, is-wear, wear-in, is-opening, order-in, is-done, all-blank}
 use Rattle.rules.specs.Page.{state-after-wear, state-by, state, page}
 use Rattle.rules.specs.Store.{states, order₂, base, used, is-cleared, is-open, order, add-order, used-orders, greatest, active-order, is-active}
-use Rattle.rules.specs.Store.{index-of, active-index, add-page, used-pages, insert, oldest-first, add-record, records, all-records, journal, or-else}
+use Rattle.rules.specs.Store.{index-of, active-index, add-page, used-pages, insert, oldest-first, add-record, records, each, journal, or-else}
 use Rattle.rules.specs.Store.{last-of, value, put, put-all, settings, held, past, free-slot, active-slots, count, or-value}
 use Rattle.rules.specs.Steps.{way, way-steps, new-page, next-order, fill-steps, other, renew, renew-all, format-steps, unclean, append-steps}
 use Rattle.rules.specs.Steps.{has-free-slot, is-value, write-steps}
@@ -94,7 +94,7 @@ computed : Computed
 unfolding with-second laid-out laid laid-all offset aim after run zeros check sound blank second-blank condition low16 low24 third checked wear-word number-word
     opening-word record-word slot-condition word-steps words wear-part opening-part done-part slots is-wear wear-in is-opening order-in is-done
     all-blank state-after-wear state-by state page states order₂ base used is-cleared is-open order add-order used-orders greatest active-order
-    is-active index-of active-index add-page used-pages insert oldest-first add-record records all-records journal or-else last-of value put put-all
+    is-active index-of active-index add-page used-pages insert oldest-first add-record records each journal or-else last-of value put put-all
     settings held past free-slot active-slots count renew renew-all format-steps unclean append-steps has-free-slot is-value write-steps
     first-of store-rows blank-read-rows read-rows write-rows way way-steps new-page next-order fill-steps other cut page-count pages wrong-size
     no-store among repeats all-used damaged is-unclean wrong-address is-held no-room order-end store-number write-number blank-read-number

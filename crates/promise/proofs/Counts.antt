@@ -7,15 +7,16 @@ use native.Mathlib.Omega.{arith}
 use lib.ListN.{length}
 use lib.Dec.{leb}
 use borrow.Author.Tests.{leb-false}
-use Rattle.rules.specs.Flash.{Step, program, erase}
+use Rattle.rules.specs.Flash.{Step}
 use Rattle.rules.specs.Word.{Word, word, wear-word, opening-word, done-word, record-word, word-steps}
 use Rattle.rules.specs.Page.{Form, Page, wear-place, opening-place, done-place, slot-place}
-use Rattle.rules.specs.Store.{Setting, setting, states, is-cleared, active-index, active-slots, free-slot, count, journal, put-all, settings, held, value}
+use Rattle.rules.specs.Store.{each, Setting, setting, states, is-cleared, active-index, active-slots, free-slot, count, journal, put-all, settings, held, value}
 use Rattle.rules.specs.Steps.{Way, stay, append-to, open-at, move-to, renew, greatest-wear, Renewal, renewal, renewals, renew-each, renew-picked, other}
 use Rattle.rules.specs.Steps.{move-records, copy-steps, append-steps, open-steps, fill-steps, move-steps, taken, next-order, has-free-slot, is-value}
 use Rattle.rules.specs.Steps.{new-page, way, way-steps, write-steps}
 use Rattle.rules.specs.Call.{pages, is-held, no-room, write-number, OK}
 use Rattle.rules.proofs.Truth.{by-cases, not-both}
+use Rattle.rules.proofs.Stores.{count-append}
 use Rattle.rules.proofs.Lengths.{word-length, renewals-others, open-long, move-long}
 use Rattle.rules.proofs.Cut.{pages-long}
 use Rattle.rules.proofs.Settings.{moved-length}
@@ -23,41 +24,37 @@ use Rattle.rules.proofs.Rows.{write-fails}
 use Rattle.rules.proofs.Ready.{taken-within}
 use Rattle.rules.proofs.Held.{held-few}
 use Rattle.promise.specs.Calls.{Image}
-use Rattle.promise.specs.Corollaries.{erases, moves, a-move-wears-all-but-one, another-write-wears-none, no-write-is-longer}
+use Rattle.promise.specs.Corollaries.{is-erase, erases, moves, a-move-wears-all-but-one, another-write-wears-none, no-write-is-longer}
 
 -- ---- erases
 
-erases-append : (xs ys : List Step) → erases (xs ++ ys) ≡ erases xs + erases ys
-unfolding erases
-erases-append [] ys = omega arith
-erases-append (program p w h low high ∷ xs) ys = erases-append xs ys
-erases-append (erase p ∷ xs) ys = let e = erases-append xs ys in omega arith
-
 -- where nothing is erased in xs
 erases-after : (xs ys : List Step) → erases xs ≡ 0 → erases (xs ++ ys) ≡ erases ys
-erases-after xs ys e = let f = erases-append xs ys in omega arith
+unfolding erases
+erases-after xs ys e = let f = count-append is-erase xs ys in omega arith
 
 erases-none : (xs ys : List Step) → erases xs ≡ 0 → erases ys ≡ 0 → erases (xs ++ ys) ≡ 0
 erases-none xs ys p q = erases-after xs ys p ∙ q
 
 erases-word : (p at : ℕ) (w : Word) → erases (word-steps p at w) ≡ 0
-unfolding erases word-steps
+unfolding erases is-erase count word-steps
 erases-word p at (word a b c d) = refl
 
 erases-copies : (p k : ℕ) (rs : List Setting) → erases (copy-steps p k rs) ≡ 0
-unfolding erases copy-steps
+unfolding erases count copy-steps
 erases-copies p k [] = refl
 erases-copies p k (setting a v ∷ rs) =
     erases-none (word-steps p (slot-place k) (record-word a v)) (copy-steps p (suc k) rs)
     (erases-word p (slot-place k) (record-word a v)) (erases-copies p (suc k) rs)
 
 erases-renew : (edition k n : ℕ) (ss : List Step) → erases (renew edition k n ++ ss) ≡ suc (erases ss)
-unfolding erases renew
-erases-renew edition k n ss = ap suc (erases-after (word-steps k wear-place (wear-word edition n)) ss (erases-word k wear-place (wear-word edition n)))
+unfolding erases is-erase count renew
+erases-renew edition k n ss =
+    omega (arith, erases-after (word-steps k wear-place (wear-word edition n)) ss (erases-word k wear-place (wear-word edition n)))
 
 -- one for each page that is renewed
 erases-each : (edition : ℕ) (rs : List Renewal) → erases (renew-each edition rs) ≡ length rs
-unfolding erases renew-each
+unfolding erases count each
 erases-each edition [] = refl
 erases-each edition (renewal k n ∷ rs) = erases-renew edition k n (renew-each edition rs) ∙ ap suc (erases-each edition rs)
 
@@ -94,7 +91,7 @@ move-wears fm i a v ok m =
 
 -- the other ways
 way-erases : (edition a v : ℕ) (ps : List Page) (w : Way) → moves w ≡ false → erases (way-steps edition a v ps w) ≡ 0
-unfolding way-steps append-steps open-steps moves erases
+unfolding way-steps append-steps open-steps moves erases count
 way-erases edition a v ps stay m = refl
 way-erases edition a v ps (append-to p k) m = erases-word p (slot-place k) (record-word a v)
 way-erases edition a v ps (open-at p o) m =

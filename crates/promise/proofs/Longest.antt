@@ -15,7 +15,7 @@ use Rattle.rules.specs.Word.{record-word}
 use Rattle.rules.specs.Page.{size, blank-word, open₁, Page, page, state, slots}
 use Rattle.rules.specs.Store.{states, order₂, base, used, is-cleared, order, greatest, used-pages, add-page, active-order, active-index, index-of}
 use Rattle.rules.specs.Store.{is-active, page-at, active-slots, past, free-slot, count, oldest-first, Setting, setting, add-record, records}
-use Rattle.rules.specs.Store.{all-records, journal, or-else, last-of, put, put-all, settings, value}
+use Rattle.rules.specs.Store.{each, all-records, journal, or-else, last-of, put, put-all, settings, value}
 use Rattle.rules.specs.Steps.{unclean, but, move-records, has-free-slot, is-value, taken, next-order, new-page, way, way-steps, write-steps}
 use Rattle.rules.specs.Call.{this-form, page-count, pages, cut, repeats, is-unclean, is-held, no-room, order-end, write-number, OK}
 use Rattle.rules.proofs.Pages.{replicate-all-blank, wear-is-wear, opened-plain, fresh-cleared}
@@ -161,7 +161,7 @@ on-top {m} {F} t pg s l =
     }
 
 older : (m : ℕ) → Stack m [] (olds m)
-unfolding olds down page states base greatest order₂ used used-pages add-page orders oldest-first all-records count is-cleared unclean AllLength old-page slots
+unfolding olds down page states base greatest order₂ used used-pages add-page orders oldest-first each count is-cleared unclean AllLength old-page slots
 older zero =
     let s = fresh-cleared 1 1 255 in
     record { is-base = rw s; has-orders = rw s; has-journal = rw s; one-cleared = rw s; all-clean = rw s; long = (refl, tt); many = refl }

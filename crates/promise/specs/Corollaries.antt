@@ -1,5 +1,5 @@
 -- What a workshop asks about its handsets, each answered from the promise.
-use Prim.Native.Nat.{ℕ, suc, _+_, _-_, _*_, _/_, _%_, _≤_, _<_}
+use Prim.Native.Nat.{ℕ, _+_, _-_, _*_, _/_, _%_, _≤_, _<_}
 use mathlib.Core.Path.{_≡_}
 use mathlib.Core.Logic.{_⊎_}
 use mathlib.Core.Bool.{Bool, true, false}
@@ -53,10 +53,12 @@ abbrev pub every-step-may-be-done : Type 0
 every-step-may-be-done = (fm : Form) → Roomy fm → (i : Image) → MayBeDone fm i
 
 -- "How much does a write wear the flash?" A move erases every page but the one that it moves to; any other write erases none.
+unfoldable pub is-erase : Step → Bool
+is-erase (program p w h low high) = false
+is-erase (erase p) = true
+
 unfoldable pub erases : List Step → ℕ
-erases [] = 0
-erases (program p w h low high ∷ ss) = erases ss
-erases (erase p ∷ ss) = suc (erases ss)
+erases ss = count is-erase ss
 
 unfoldable pub moves : Way → Bool
 moves stay = false
@@ -118,9 +120,9 @@ pub record SaysHowFar : Type 0 where
 abbrev pub a-cut-record-says-how-far-it-came : Type 0
 a-cut-record-says-how-far-it-came = SaysHowFar
 
--- "How many broken words can a listing show?" No more than the used pages have slots.
+-- "How many broken words can a listing show?" No more than the used pages have slots, whatever the image.
 abbrev pub no-slot-counts-twice : Type 0
-no-slot-counts-twice = (fm : Form) (i : Image) → wrong-size fm i ≡ false
+no-slot-counts-twice = (fm : Form) (i : Image)
     → half (pages fm i) + spoiled (pages fm i) ≤ count (used (base (states (pages fm i)))) (states (pages fm i)) * fm .slot-count
 
 -- "How long can a write take?" It has at most 388 steps, and 3 for each page but one; and in a store of any number of pages, of the

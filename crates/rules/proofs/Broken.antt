@@ -2,38 +2,27 @@
 use Prim.Native.Nat.{ℕ, suc, _+_, _*_, _≤_}
 use mathlib.Core.Path.{_≡_, refl, sym, ap, _∙_}
 use mathlib.Core.Bool.{Bool}
-use mathlib.Core.List.{List, [], _∷_, _++_, map, append-assoc}
+use mathlib.Core.List.{List, [], _∷_, map}
 use native.Mathlib.Nat.{zero-mul, suc-mul}
 use native.Mathlib.Omega.{arith}
 use lib.ListN.{length, length-append, length-map, length-drop}
 use lib.Dec.{leb}
 use Rattle.rules.specs.Word.{Word, Condition, Sound, Blank, HalfWritten, Spoiled, slot-condition}
 use Rattle.rules.specs.Page.{Page, page, slots, state}
-use Rattle.rules.specs.Store.{states, base, used, order, add-page, used-pages, insert, oldest-first, count}
-use Rattle.rules.specs.Listing.{is-half, is-spoiled, conditions, used-conditions}
+use Rattle.rules.specs.Store.{states, base, used, order, add-page, used-pages, insert, oldest-first, each, count}
+use Rattle.rules.specs.Listing.{is-half, is-spoiled, conditions-in, used-conditions}
 use Rattle.rules.proofs.Truth.{by-cases}
 use Rattle.rules.proofs.Cut.{AllLength}
-
-pub count-append : {A : Type 0} (test : A → Bool) (xs ys : List A) → count test (xs ++ ys) ≡ count test xs + count test ys
-unfolding count
-count-append test [] ys = omega arith
-count-append test (x ∷ xs) ys = omega (arith, count-append test xs ys)
-
-pub conditions-append : (xs ys : List Page) → conditions (xs ++ ys) ≡ conditions xs ++ conditions ys
-unfolding conditions
-conditions-append [] ys = refl
-conditions-append (p ∷ xs) ys =
-    ap (λ (cs : List Condition). map slot-condition (p .slots) ++ cs) (conditions-append xs ys)
-    ∙ sym (append-assoc (map slot-condition (p .slots)) (conditions xs) (conditions ys))
+use Rattle.rules.proofs.Stores.{count-append}
 
 -- ---- in any order
 
-module _ (test : Condition → Bool) where
-  next-counted : (p : Page) (ps : List Page) → count test (conditions (p ∷ ps)) ≡ count test (map slot-condition (p .slots)) + count test (conditions ps)
-  unfolding conditions
-  next-counted p ps = count-append test (map slot-condition (p .slots)) (conditions ps)
+module _ {A : Type 0} (of : Page → List A) (test : A → Bool) where
+  next-counted : (p : Page) (ps : List Page) → count test (each of (p ∷ ps)) ≡ count test (of p) + count test (each of ps)
+  unfolding each
+  next-counted p ps = count-append test (of p) (each of ps)
 
-  insert-counted : (p : Page) (qs : List Page) → count test (conditions (insert p qs)) ≡ count test (conditions (p ∷ qs))
+  insert-counted : (p : Page) (qs : List Page) → count test (each of (insert p qs)) ≡ count test (each of (p ∷ qs))
   unfolding insert
   insert-counted p [] = refl
   insert-counted p (q ∷ qs) =
@@ -42,16 +31,17 @@ module _ (test : Condition → Bool) where
       rw t
       (omega (arith, next-counted q (insert p qs), insert-counted p qs, next-counted p qs, next-counted p (q ∷ qs), next-counted q qs)))
 
-  oldest-counted : (ps : List Page) → count test (conditions (oldest-first ps)) ≡ count test (conditions ps)
+  oldest-counted : (ps : List Page) → count test (each of (oldest-first ps)) ≡ count test (each of ps)
   unfolding oldest-first
   oldest-counted [] = refl
   oldest-counted (p ∷ ps) =
       omega (arith, insert-counted p (oldest-first ps), next-counted p (oldest-first ps), oldest-counted ps, next-counted p ps)
 
-  -- the used pages have so many, the oldest first or by index
-  pub used-counted : (ps : List Page) → count test (conditions (oldest-first (used-pages (base (states ps)) ps))) ≡ count test (used-conditions ps)
-  unfolding used-conditions
-  used-counted ps = oldest-counted (used-pages (base (states ps)) ps)
+-- the used pages have so many, the oldest first or by index
+pub used-counted : (test : Condition → Bool) (ps : List Page)
+    → count test (each conditions-in (oldest-first (used-pages (base (states ps)) ps))) ≡ count test (used-conditions ps)
+unfolding used-conditions
+used-counted test ps = oldest-counted conditions-in test (used-pages (base (states ps)) ps)
 
 -- ---- so many at most
 
@@ -65,12 +55,12 @@ broken-few (Spoiled ∷ cs) = omega (arith, broken-few cs)
 
 -- every used page has n slots
 pub used-many : (edition n b : ℕ) (F : List (List Word)) → AllLength (suc (suc (suc n))) F
-    → length (conditions (used-pages b (map (page edition) F))) ≡ count (used b) (states (map (page edition) F)) * n
-unfolding AllLength used-pages add-page conditions states count page slots
+    → length (each conditions-in (used-pages b (map (page edition) F))) ≡ count (used b) (states (map (page edition) F)) * n
+unfolding AllLength used-pages add-page each states count page slots
 used-many edition n b [] h = sym (zero-mul n)
 used-many edition n b (pg ∷ F) h =
     let rest = used-many edition n b F (h .1) in
-    let behind = conditions (used-pages b (map (page edition) F)) in
+    let behind = each conditions-in (used-pages b (map (page edition) F)) in
     let k = count (used b) (states (map (page edition) F)) in
     let here : length (map slot-condition (slots pg)) ≡ n = length-map (slots pg) slot-condition ∙ length-drop 3 pg ∙ (let l = h .0 in omega arith) in
     by-cases (used b (state edition pg))

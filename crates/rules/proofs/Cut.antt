@@ -166,11 +166,11 @@ unfoldable pub AllLength : ℕ → List (List Word) → Type 0
 AllLength k [] = Unit {0}
 AllLength k (pg ∷ F) = (length pg ≡ k) × AllLength k F
 
-pub cut-all-length : (k n : ℕ) (i : List ℕ) → length i ≡ n * (4 * k) → AllLength k (cut (4 * k) n i)
+pub cut-all-length : (k n : ℕ) (i : List ℕ) → n * (4 * k) ≤ length i → AllLength k (cut (4 * k) n i)
 unfolding cut AllLength
 cut-all-length k zero i e = tt
 cut-all-length k (suc n) i e =
-    let e′ : length i ≡ n * (4 * k) + 4 * k = e ∙ suc-mul n (4 * k) in
+    let m = suc-mul n (4 * k) in
     (words-length k (take (4 * k) i) (length-take-le (4 * k) i (omega arith)), cut-all-length k n (drop (4 * k) i) (rw length-drop (omega arith)))
 
 -- what is stored within one page is stored in that page

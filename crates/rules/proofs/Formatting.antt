@@ -6,7 +6,8 @@ use native.Mathlib.Omega.{arith}
 use lib.ListN.{replicate, length-replicate}
 use Rattle.rules.specs.Word.{Word, wear-word, opening-word}
 use Rattle.rules.specs.Page.{blank-word, open₁, cleared, Page, page, state, slots}
-use Rattle.rules.specs.Store.{states, base, greatest, order, order₂, used, used-pages, add-page, oldest-first, insert, records, all-records, put-all}
+use Rattle.rules.specs.Store.{states, base, greatest, order, order₂, used, used-pages, add-page, oldest-first, insert, each, put-all}
+use Rattle.rules.specs.Store.{records, all-records}
 use Rattle.rules.specs.Call.{among, repeats}
 use Rattle.rules.proofs.Words.{wear-sound, opening-sound, sound-light}
 use Rattle.rules.proofs.Pages.{AllLight, replicate-light, replicate-all-blank, fresh-cleared, wear-is-wear, opened-plain}
@@ -53,7 +54,7 @@ module _ (c : Frame) where
   clear-unused (suc n) = (rw clear-state, clear-unused n)
 
   pub format-good : (n : ℕ) → suc n ≡ c .pages → Good c [] (formatted e (slots-in c) n)
-  unfolding AllWhole AllLight page base greatest states order order₂ used used-pages add-page orders oldest-first insert all-records slots repeats among put-all
+  unfolding AllWhole AllLight page base greatest states order order₂ used used-pages add-page orders oldest-first insert each slots repeats among put-all
   format-good n is =
       let two = c .two in
       let m = slots-in c in

@@ -8,7 +8,7 @@ use lib.Dec.{eqb}
 use borrow.Author.Tests.{ne-eqb, eqb-true, eqb-false}
 use Rattle.rules.specs.Word.{Word, word, wear-word, opening-word, record-word, word-steps}
 use Rattle.rules.specs.Page.{Page, wear-place, opening-place, slot-place}
-use Rattle.rules.specs.Store.{Setting, setting}
+use Rattle.rules.specs.Store.{each, Setting, setting}
 use Rattle.rules.specs.Steps.{renew, renew-all, format-steps, renewed-wear, greatest-wear, Renewal, renewal, renewals, renew-each, renew-picked, other}
 use Rattle.rules.specs.Steps.{copy-steps, open-steps, fill-steps, move-steps}
 use Rattle.rules.proofs.Truth.{by-cases}
@@ -40,7 +40,7 @@ open-long p o a v = simp (length-append, word-length)
 -- ---- pages renewed: three steps for each
 
 pub each-long : (edition : ℕ) (rs : List Renewal) → length (renew-each edition rs) ≡ 3 * length rs
-unfolding renew-each
+unfolding each
 each-long edition [] = refl
 each-long edition (renewal k w ∷ rs) =
     omega (arith, length-append (renew edition k w) (renew-each edition rs), renew-length edition k w, each-long edition rs)

@@ -10,7 +10,7 @@ use borrow.Author.Tests.{le-leb, eq-eqb}
 use Rattle.rules.specs.Flash.{Step}
 use Rattle.rules.specs.Word.{Word, sound, opening-word, done-word, word-steps}
 use Rattle.rules.specs.Page.{blank-word, opening-part, done-part, State, open₂, Page, page, state, slots, opening-place, done-place}
-use Rattle.rules.specs.Store.{order, order₂, used, used-pages, oldest-first, insert, Setting, records, all-records}
+use Rattle.rules.specs.Store.{order, order₂, used, used-pages, oldest-first, insert, Setting, records, each, all-records}
 use Rattle.rules.specs.Steps.{greatest-wear, renewals, renew-each, renew-picked, other, copy-steps, fill-steps, move-steps}
 use Rattle.rules.proofs.Truth.{not-both}
 use Rattle.rules.proofs.Words.{sound-light, blank-not-sound, done-sound}
@@ -130,7 +130,7 @@ module _ (c : Frame) (J : List Setting) (f : Pages) (w : Word) (r : Pages) (t : 
         ∙ append-nil (records (written cs)) ∙ written-records cs lawful
 
     done-keeps : New (receiving (done-word o) filled)
-    unfolding page orders order order₂ used slots oldest-first insert all-records
+    unfolding page orders order order₂ used slots oldest-first insert each
     done-keeps =
         let qg = receives (done-word o) filled in
         let q = page (c .form .edition) qg in

@@ -142,7 +142,7 @@ module _ (fm : Form) (i : List ℕ) (ok : store-number fm i ≡ OK) where
   unfolding pages damaged no-store
   ordered =
       record {
-        long = cut-all-length (word-count fm) (page-count fm i) i (sizes .sized);
+        long = cut-all-length (word-count fm) (page-count fm i) i (let s = sizes .sized in omega arith);
         is-base = refl;
         has-orders = refl;
         apart = rw (← orders-used base-of (pages fm i)) (or-false-left (repeats (used-orders base-of (states (pages fm i)))) _ undamaged);

@@ -11,8 +11,8 @@ use borrow.Author.Tests.{not-true}
 use Rattle.rules.specs.Flash.{erase}
 use Rattle.rules.specs.Word.{Word, wear-word}
 use Rattle.rules.specs.Page.{blank-word, State, page, state, wear-in}
-use Rattle.rules.specs.Store.{states, base, used, is-cleared, count, Setting}
-use Rattle.rules.specs.Steps.{renew, renewed-wear, greatest-wear, renewals, renew-each, renew-picked, unclean, recovery-steps}
+use Rattle.rules.specs.Store.{each, states, base, used, is-cleared, count, Setting}
+use Rattle.rules.specs.Steps.{renew, renewed-wear, greatest-wear, renewals, renew-picked, unclean, recovery-steps}
 use Rattle.rules.proofs.Truth.{by-cases, or-second, or-false-left}
 use Rattle.rules.proofs.Words.{Light, wear-sound}
 use Rattle.rules.proofs.Shape.{target, WordsRise, PageFails, erasing}
@@ -66,7 +66,7 @@ module _ (c : Frame) (b : ℕ) (os : List ℕ) (J : List Setting) where
     -- whatever the wears are
     pub renewals-through : (g : ℕ) (f F : Pages) → Idle (c .form .edition) b picks (length f) F → Keeping (f ++ F)
         → Throughout c Keeping (rest-steps (c .form .edition) k′ picks g (length f) F) (f ++ F)
-    unfolding renewals renew-each page Idle
+    unfolding renewals each page Idle
     renewals-through g f [] i h = end h
     renewals-through g f (pg ∷ F) i h =
         by-cases (picks (length f) (state (c .form .edition) pg))

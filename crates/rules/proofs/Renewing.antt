@@ -9,6 +9,7 @@ use lib.Seq.{append-snoc}
 use Rattle.rules.specs.Flash.{Step, erase}
 use Rattle.rules.specs.Word.{Word, wear-word, opening-word, word-steps}
 use Rattle.rules.specs.Page.{blank-word, State, page, state, wear-in, opening-place}
+use Rattle.rules.specs.Store.{each}
 use Rattle.rules.specs.Steps.{renew, renew-all, format-steps, renewed-wear, renewals, renew-each}
 use Rattle.rules.proofs.Truth.{by-cases}
 use Rattle.rules.proofs.Words.{wear-sound, opening-sound}
@@ -54,7 +55,7 @@ module _ (edition k′ : ℕ) (picks : ℕ → State → Bool) where
   onward g f qg F h = rw (next-length f qg, append-snoc f qg F, append-snoc f qg (renewed edition k′ picks g (suc (length f)) F)) at h
 
   pub renewals-run : (g : ℕ) (f F : Pages) → store-run (suc k′) (rest-steps g (length f) F) (f ++ F) ≡ f ++ renewed edition k′ picks g (length f) F
-  unfolding renewals renew-each renewed page store-run
+  unfolding renewals each renewed page store-run
   renewals-run g f [] = refl
   renewals-run g f (pg ∷ F) =
       by-cases (picks (length f) (state edition pg))

@@ -10,7 +10,7 @@ use borrow.Author.Tests.{eqb-true, eqb-false}
 use Rattle.rules.specs.Word.{Word, sound, blank, Condition, Sound, Blank, HalfWritten, Spoiled}
 use Rattle.rules.specs.Word.{record-word, slot-condition}
 use Rattle.rules.specs.Page.{blank-word, Page, all-blank}
-use Rattle.rules.specs.Store.{Setting, setting, add-record, records, all-records, put, put-all, past, free-slot}
+use Rattle.rules.specs.Store.{Setting, setting, add-record, records, each, all-records, put, put-all, past, free-slot}
 use Rattle.rules.specs.Steps.{but}
 use Rattle.rules.proofs.Truth.{and-left, and-right, by-cases}
 use Rattle.rules.proofs.Conditions.{unsound-cases, record-told, slot-sound}
@@ -119,7 +119,7 @@ records-lawful (w ∷ ws) = added (slot-condition w) refl (records-lawful ws)
     added Spoiled e l = l
 
 pub all-records-lawful : (ps : List Page) → Lawful (all-records ps)
-unfolding all-records Lawful
+unfolding each Lawful
 all-records-lawful [] = tt
 all-records-lawful (p ∷ ps) = lawful-append (records (p .slots)) (all-records ps) (records-lawful (p .slots)) (all-records-lawful ps)
 

@@ -11,7 +11,7 @@ use lib.Dec.{eqb, leb}
 use borrow.Author.Tests.{le-leb, lt-leb, leb-true, leb-false, eqb-true, eqb-false, eq-eqb, ne-eqb}
 use Rattle.rules.specs.Page.{State, cleared, open₁, open₂, receiving, bad, Page}
 use Rattle.rules.specs.Store.{states, order₂, base, used, is-cleared, is-open, order, add-order, used-orders, greatest, is-active, index-of}
-use Rattle.rules.specs.Store.{add-page, used-pages, insert, oldest-first, Setting, records, all-records, count, Candidate}
+use Rattle.rules.specs.Store.{add-page, used-pages, insert, oldest-first, Setting, records, each, records-in, all-records, count, Candidate}
 use Rattle.rules.specs.Store.{nobody, page, better, offered, least-worn}
 use Rattle.rules.specs.Steps.{unclean}
 use Rattle.rules.specs.Call.{among, repeats}
@@ -56,10 +56,15 @@ used-pages-append b (p ∷ xs) ys =
     by-cases (used b (p .state)) (λ u. rw u (ap (λ (ps : List Page). p ∷ ps) (used-pages-append b xs ys)))
     (λ u. rw u (used-pages-append b xs ys))
 
-pub all-records-append : (xs ys : List Page) → all-records (xs ++ ys) ≡ all-records xs ++ all-records ys
-unfolding all-records
-all-records-append [] ys = refl
-all-records-append (p ∷ xs) ys = rw (all-records-append xs ys) (sym (append-assoc (records (p .slots)) (all-records xs) (all-records ys)))
+pub count-append : {A : Type 0} (test : A → Bool) (xs ys : List A) → count test (xs ++ ys) ≡ count test xs + count test ys
+unfolding count
+count-append test [] ys = omega arith
+count-append test (x ∷ xs) ys = omega (arith, count-append test xs ys)
+
+pub each-append : {A B : Type 0} (of : A → List B) (xs ys : List A) → each of (xs ++ ys) ≡ each of xs ++ each of ys
+unfolding each
+each-append of [] ys = refl
+each-append of (x ∷ xs) ys = rw (each-append of xs ys) (sym (append-assoc (of x) (each of xs) (each of ys)))
 
 -- the base of a store with a page in its midst
 pub base-amid : (f : List Page) (p : Page) (r : List Page) → base (states (f ++ p ∷ r)) ≡ max (base (states f)) (max (order₂ (p .state)) (base (states r)))
@@ -163,11 +168,11 @@ greatest-last q (x ∷ xs) ys h t = rw (greatest-last q xs ys (h .1) t) (insert-
 pub journal-amid : (b : ℕ) (f : List Page) (p : Page) (r : List Page) → used b (p .state) ≡ true → Below (order (p .state)) (used-pages b f)
     → Below (order (p .state)) (used-pages b r)
     → all-records (oldest-first (used-pages b (f ++ p ∷ r))) ≡ all-records (oldest-first (used-pages b f ++ used-pages b r)) ++ records (p .slots)
-unfolding used-pages add-page all-records
+unfolding used-pages add-page each
 journal-amid b f p r u h t =
     ap (λ (ps : List Page). all-records (oldest-first ps)) (used-pages-append b f (p ∷ r) ∙ rw u)
     ∙ ap all-records (greatest-last p (used-pages b f) (used-pages b r) h t)
-    ∙ all-records-append (oldest-first (used-pages b f ++ used-pages b r)) (p ∷ [])
+    ∙ each-append records-in (oldest-first (used-pages b f ++ used-pages b r)) (p ∷ [])
     ∙ ap (λ (rs : List Setting). all-records (oldest-first (used-pages b f ++ used-pages b r)) ++ rs) (append-nil (records (p .slots)))
 
 -- the used pages with a used page in their midst

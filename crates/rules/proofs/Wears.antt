@@ -11,8 +11,8 @@ use lib.Seq.{append-snoc, set-append-seam, getD-set-other, getD-at}
 use Rattle.rules.specs.Flash.{Half, Step, program, erase}
 use Rattle.rules.specs.Word.{Word, word, wear-word, word-steps}
 use Rattle.rules.specs.Page.{wear-part, wear-in, State, Page, page, state, wear-place}
-use Rattle.rules.specs.Store.{greatest, or-value}
-use Rattle.rules.specs.Steps.{renew, one-more, renewed-wear, greatest-wear, Renewal, renewal, renewals, renew-each}
+use Rattle.rules.specs.Store.{each, greatest, or-value}
+use Rattle.rules.specs.Steps.{renew, one-more, renewed-wear, greatest-wear, renewal, renewals, renew-each}
 use Rattle.rules.proofs.Truth.{by-cases}
 use Rattle.rules.proofs.Words.{wear-is}
 use Rattle.rules.proofs.Pages.{wear-is-wear}
@@ -20,13 +20,6 @@ use Rattle.rules.proofs.Phases.{Pages, store-run, store-run-append}
 use Rattle.rules.proofs.Told.{told, told-amid}
 use Rattle.rules.proofs.Stores.{greatest-append}
 use Rattle.rules.proofs.Renewing.{fresh, next-length, renew-run, rest-steps}
-
-pub each-append : (edition : ℕ) (rs qs : List Renewal) → renew-each edition (rs ++ qs) ≡ renew-each edition rs ++ renew-each edition qs
-unfolding renew-each
-each-append edition [] qs = refl
-each-append edition (renewal k w ∷ rs) qs =
-    ap (λ (ss : List _). renew edition k w ++ ss) (each-append edition rs qs)
-    ∙ sym (append-assoc (renew edition k w) (renew-each edition rs) (renew-each edition qs))
 
 -- a renewed page has its new wear
 pub fresh-wear : (edition k′ n : ℕ) → wear-in edition (fresh edition k′ n) ≡ some n
@@ -189,7 +182,7 @@ module _ (edition k′ : ℕ) where
     -- g is as good as the greatest, and the steps that renew the pages F, behind pages f, erase page p
     pub erased-at : (g : ℕ) (f F : Pages) → Tops edition g (f ++ F) → (before : List Step) (p : ℕ) (after : List Step)
         → steps-for g (length f) F ≡ before ++ erase p ∷ after → (length f ≤ p) × Erased (f ++ F) before p after
-    unfolding renewals renew-each page renew
+    unfolding renewals each page renew
     erased-at g f [] tops before p after e = absurd (none-there before (erase p) after e)
     erased-at g f (x ∷ F) tops before p after e =
         by-cases (picks (length f) (state edition x))
@@ -215,7 +208,7 @@ further here before after e = ap (λ (ss : List Step). here ++ ss) e ∙ sym (ap
 pub is-erased : (edition : ℕ) (picks : ℕ → State → Bool) (g k : ℕ) (ps : List Page) (j p : ℕ) (d : Page) → j < length ps → k + j ≡ p
     → picks p (getD ps j d .state) ≡ true
     → (before : List Step) × (after : List Step) × (renew-each edition (renewals picks g k ps) ≡ before ++ erase p ∷ after)
-unfolding renewals renew-each renew
+unfolding renewals each renew
 is-erased edition picks g k [] j p d l i t = absurd (omega arith)
 is-erased edition picks g k (x ∷ ps) zero p d l i t =
     let e : k ≡ p = omega arith in

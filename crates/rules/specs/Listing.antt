@@ -6,7 +6,8 @@ use lib.ListN.{length}
 use lib.Dec.{ltb}
 use Rattle.rules.specs.Word.{Condition, Sound, Blank, HalfWritten, Spoiled, slot-condition}
 use Rattle.rules.specs.Page.{Form, Page}
-use Rattle.rules.specs.Store.{states, base, used, is-cleared, active-order, used-pages, count, Setting, setting, settings, held}
+use Rattle.rules.specs.Store.{states, base, used, is-cleared, active-order, used-pages, each, count, Setting, setting}
+use Rattle.rules.specs.Store.{settings, held}
 use Rattle.rules.specs.Call.{store-number, accepted, pages}
 
 -- a number in decimal digits, no more than `places`: none here has over seven
@@ -61,13 +62,12 @@ is-spoiled Blank = false
 is-spoiled HalfWritten = false
 is-spoiled Spoiled = true
 
--- the conditions of the slots of several pages, one page after the other
-unfoldable pub conditions : List Page → List Condition
-conditions [] = []
-conditions (p ∷ ps) = map slot-condition (p .slots) ++ conditions ps
+-- the conditions of the slots of a page, and of those of the used pages
+abbrev pub conditions-in : Page → List Condition
+conditions-in p = map slot-condition (p .slots)
 
 unfoldable pub used-conditions : List Page → List Condition
-used-conditions ps = conditions (used-pages (base (states ps)) ps)
+used-conditions ps = each conditions-in (used-pages (base (states ps)) ps)
 
 unfoldable pub half : List Page → ℕ
 half ps = count is-half (used-conditions ps)
@@ -84,9 +84,11 @@ first-line ps =
     ++ decimal (held ps) ++ text-half ++ decimal (half ps) ++ text-spoiled ++ decimal (spoiled ps) ++ line-end
 
 -- L3. Settings: address and value, addresses rising.
+unfoldable pub setting-line : Setting → List ℕ
+setting-line (setting a v) = decimal a ++ space ++ decimal v ++ line-end
+
 unfoldable pub setting-lines : List Setting → List ℕ
-setting-lines [] = []
-setting-lines (setting a v ∷ rs) = decimal a ++ space ++ decimal v ++ line-end ++ setting-lines rs
+setting-lines rs = each setting-line rs
 
 -- L5. Refusal: as recovery's, the number in one line.
 unfoldable pub listing : (form : Form) → List ℕ → List ℕ

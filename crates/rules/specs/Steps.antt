@@ -8,7 +8,7 @@ use lib.Dec.{eqb, leb, ltb}
 use Rattle.rules.specs.Flash.{Step, erase}
 use Rattle.rules.specs.Word.{word-steps, wear-word, opening-word, done-word, record-word}
 use Rattle.rules.specs.Page.{State, Page, wear-place, opening-place, done-place, slot-place}
-use Rattle.rules.specs.Store.{states, base, used, is-cleared, active-order, active-index, active-slots, count, least-worn, index, Setting}
+use Rattle.rules.specs.Store.{each, states, base, used, is-cleared, active-order, active-index, active-slots, count, least-worn, index, Setting}
 use Rattle.rules.specs.Store.{greatest, setting, settings, value, or-value, free-slot}
 
 -- C3. Renewing a page: it is erased and gets a wear word.
@@ -46,9 +46,11 @@ renewals picks greatest k (p ∷ ps) =
     let wear = renewed-wear greatest (p .wear) in
     cond (picks k (p .state)) (renewal k wear ∷ renewals picks (max greatest wear) (suc k) ps) (renewals picks greatest (suc k) ps)
 
-unfoldable pub renew-each : (edition : ℕ) → List Renewal → List Step
-renew-each edition [] = []
-renew-each edition (renewal k wear ∷ rs) = renew edition k wear ++ renew-each edition rs
+abbrev pub renew-by : (edition : ℕ) → Renewal → List Step
+renew-by edition (renewal k wear) = renew edition k wear
+
+abbrev pub renew-each : (edition : ℕ) → List Renewal → List Step
+renew-each edition rs = each (renew-by edition) rs
 
 unfoldable pub renew-picked : (edition : ℕ) → (ℕ → State → Bool) → List Page → List Step
 renew-picked edition picks ps = renew-each edition (renewals picks (greatest-wear ps) 0 ps)

@@ -122,10 +122,17 @@ unfoldable pub records : List Word → List Setting
 records [] = []
 records (w ∷ ws) = add-record (slot-condition w) w (records ws)
 
--- the records of several pages, one page after the other
-unfoldable pub all-records : List Page → List Setting
-all-records [] = []
-all-records (p ∷ ps) = records (p .slots) ++ all-records ps
+-- what a function gives of each thing in a list, one after the other
+unfoldable pub each : {A B : Type 0} → (A → List B) → List A → List B
+each of [] = []
+each of (x ∷ xs) = of x ++ each of xs
+
+-- the records of a page, and of several pages
+abbrev pub records-in : Page → List Setting
+records-in p = records (p .slots)
+
+abbrev pub all-records : List Page → List Setting
+all-records ps = each records-in ps
 
 -- the records of the used pages, from the first slot of the oldest to the last of the active one
 unfoldable pub journal : List Page → List Setting

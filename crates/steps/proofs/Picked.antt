@@ -10,15 +10,15 @@ use lib.Seq.{take-suc, take-all, length-take-le, drop-drop}
 use Rattle.rules.specs.Flash.{Half, Step, program, erase, first, second, offset, aim, bytes-at, after, run}
 use Rattle.rules.specs.Word.{Word, word, words, wear-word, word-steps}
 use Rattle.rules.specs.Page.{Form, word-count, size, State, Page, page}
-use Rattle.rules.specs.Store.{no-page}
-use Rattle.rules.specs.Steps.{renew, renewed-wear, greatest-wear, Renewal, renewal, renewals, renew-each, renew-picked}
+use Rattle.rules.specs.Store.{each, no-page}
+use Rattle.rules.specs.Steps.{renew, renewed-wear, greatest-wear, Renewal, renewal, renewals, renew-by, renew-each, renew-picked}
 use Rattle.rules.specs.Call.{cut, first-pages, page-in}
 use Rattle.rules.proofs.Truth.{by-cases}
 use Rattle.rules.proofs.Cut.{cut-length, drop-sets-below}
 use Rattle.rules.proofs.Told.{page-cut}
 use Rattle.rules.proofs.Plans.{cut-run}
 use Rattle.rules.proofs.Lengths.{renew-length}
-use Rattle.rules.proofs.Wears.{each-append}
+use Rattle.rules.proofs.Stores.{each-append}
 use Rattle.steps.specs.Picked.{picked-steps}
 
 -- a page whose bytes are as they were is as it was
@@ -126,7 +126,8 @@ module _ (fm : Form) (n : ℕ) (i : List ℕ) where
         let g = greatest-wear told in
         ap (λ (ps : List Page). renew-each (fm .edition) (renewals chosen g 0 ps)) (told-next j l)
         ∙ ap (renew-each (fm .edition)) (renewals-append chosen g 0 (take j told) (page-in fm j i ∷ []))
-        ∙ each-append (fm .edition) (renewals chosen g 0 (take j told)) (renewals chosen (greatest-at j) (0 + length (take j told)) (page-in fm j i ∷ []))
+        ∙ each-append (renew-by (fm .edition)) (renewals chosen g 0 (take j told))
+        (renewals chosen (greatest-at j) (0 + length (take j told)) (page-in fm j i ∷ []))
         ∙ ap (λ (x : ℕ). upto j ++ renew-each (fm .edition) (renewals chosen (greatest-at j) x (page-in fm j i ∷ []))) (front j l)
 
     greatest-next : (j : ℕ) → j < n → greatest-at (suc j) ≡ reached chosen (greatest-at j) j (page-in fm j i ∷ [])
@@ -137,7 +138,7 @@ module _ (fm : Form) (n : ℕ) (i : List ℕ) where
         ∙ ap (λ (x : ℕ). reached chosen (greatest-at j) x (page-in fm j i ∷ [])) (front j l)
 
     pub upto-none : upto 0 ≡ []
-    unfolding upto renewals renew-each
+    unfolding upto renewals each
     upto-none = refl
 
     pub greatest-first : greatest-at 0 ≡ greatest-wear told
@@ -150,7 +151,7 @@ module _ (fm : Form) (n : ℕ) (i : List ℕ) where
 
     module _ (j : ℕ) (l : j < n) where
       pub upto-picked : getD picks j false ≡ true → upto (j + 1) ≡ upto j ++ renew (fm .edition) j (renewed-wear (greatest-at j) (page-in fm j i .wear))
-      unfolding renewals renew-each
+      unfolding renewals each
       upto-picked t =
           let here = renew (fm .edition) j (renewed-wear (greatest-at j) (page-in fm j i .wear)) in
           rw add-one (upto-next j l ∙ ap (λ (ss : List Step). upto j ++ ss) (rw t (append-nil here)))
@@ -160,7 +161,7 @@ module _ (fm : Form) (n : ℕ) (i : List ℕ) where
       greatest-picked t = rw add-one (greatest-next j l ∙ rw t)
 
       pub upto-passed : getD picks j false ≡ false → upto (j + 1) ≡ upto j
-      unfolding renewals renew-each
+      unfolding renewals each
       upto-passed t = rw add-one (upto-next j l ∙ ap (λ (ss : List Step). upto j ++ ss) (rw t) ∙ append-nil (upto j))
 
       pub greatest-passed : getD picks j false ≡ false → greatest-at (j + 1) ≡ greatest-at j

@@ -1,18 +1,17 @@
 -- The records of the used pages, gathered page by page. Assumes nothing.
 use Prim.Native.Nat.{ℕ, _+_, _-_, _≤_, _<_}
-use mathlib.Core.Path.{_≡_, refl, sym, ap, ap₂, _∙_, subst}
+use mathlib.Core.Path.{_≡_, sym, ap, ap₂, _∙_, subst}
 use mathlib.Core.Logic.{_⊎_, inl, inr}
-use mathlib.Core.List.{List, [], _∷_, _++_, map, append-nil, append-assoc}
-use native.Mathlib.Numerals.{add-one}
+use mathlib.Core.List.{List, [], _∷_, _++_, append-nil}
 use native.Mathlib.Omega.{arith}
 use lib.ListN.{length, getD, take}
-use lib.Seq.{take-suc, take-all, take-append-seam}
+use lib.Seq.{take-all, take-append-seam}
 use lib.Dec.{eqb, ltb}
 use borrow.Author.Tests.{eqb-true, eqb-false, ltb-true, ltb-false}
 use Rattle.rules.specs.Word.{Word, blank}
-use Rattle.rules.specs.Page.{Form, State, blank-word, all-blank}
-use Rattle.rules.specs.Store.{Setting, records, all-records, free-slot, active-index, active-slots, page-at, put-all, states, journal, settings}
-use Rattle.rules.specs.Call.{pages, page-in}
+use Rattle.rules.specs.Page.{Form, State, Page, blank-word, all-blank}
+use Rattle.rules.specs.Store.{Setting, records, records-in, all-records, free-slot, active-index, active-slots, page-at, put-all, states, journal, settings}
+use Rattle.rules.specs.Call.{pages}
 use Rattle.rules.proofs.Truth.{by-cases}
 use Rattle.rules.proofs.Settings.{settings-rising, put-all-append}
 use Rattle.rules.proofs.Slots.{FreeAt, free-at, records-append, blank-records}
@@ -21,7 +20,7 @@ use Rattle.survey.specs.States.{slots-in}
 use Rattle.survey.specs.declared.Look.{Look}
 use Rattle.survey.specs.Look.{pages-number, Lines, Told, Looks}
 use Rattle.survey.proofs.Slots.{slots-are, slots-many}
-use Rattle.survey.proofs.Looking.{line-pages, line-few, line-places, line-within}
+use Rattle.survey.proofs.Looking.{line-next, line-pages, told-few, line-places, line-within}
 use Rattle.store.specs.Gather.{gathered, Passes}
 
 -- ---- the slots before the free one
@@ -56,7 +55,7 @@ module _ {fm : Form} {i : List ℕ} {look : Look} (h : Looks fm i look) where
       let place : (k : ℕ) → k + 1 ≡ look .used → active-index all ≡ getD (look .line) k 0 =
       λ k e. sym (t .line .last) ∙ (let z : look .used - 1 ≡ k = omega arith in rw z) in
       record {
-        few = line-few ok t;
+        few = told-few ok t .1;
         long = t .line .long;
         room = λ l. t .room;
         places = line-places ok t;
@@ -97,21 +96,10 @@ module _ {fm : Form} {i line : List ℕ} {used free : ℕ} (p : Passes fm i line
 
 -- ---- one page more
 
-gathered-append : (fm : Form) (i xs ys : List ℕ) → gathered fm i (xs ++ ys) ≡ gathered fm i xs ++ gathered fm i ys
-unfolding gathered
-gathered-append fm i [] ys = refl
-gathered-append fm i (k ∷ xs) ys =
-    ap (λ (rs : List Setting). records (slots-in fm k i) ++ rs) (gathered-append fm i xs ys)
-    ∙ sym (append-assoc (records (slots-in fm k i)) (gathered fm i xs) (gathered fm i ys))
-
 module _ (fm : Form) (i line : List ℕ) (k : ℕ) (l : k < length line) where
   gathered-next : gathered fm i (take (k + 1) line) ≡ gathered fm i (take k line) ++ records (slots-in fm (getD line k 0) i)
-  unfolding gathered
-  gathered-next =
-      let here = records (slots-in fm (getD line k 0) i) in
-      rw add-one
-      (ap (gathered fm i) (take-suc line k 0 l) ∙ gathered-append fm i (take k line) (getD line k 0 ∷ [])
-      ∙ ap (λ (rs : List Setting). gathered fm i (take k line) ++ rs) (append-nil here))
+  unfolding gathered slots-in
+  gathered-next = line-next fm i records-in line k l
 
   -- the records of so many slots that no other has one
   pub gather-more : (n : ℕ) {xs ys xs′ ys′ : List ℕ} {h h′ : ℕ}
@@ -128,11 +116,6 @@ module _ (fm : Form) (i line : List ℕ) (k : ℕ) (l : k < length line) where
 -- ---- the line is that of the used pages, oldest first
 
 module _ (fm : Form) (i : List ℕ) where
-  gathered-pages : (ks : List ℕ) → gathered fm i ks ≡ all-records (map (λ (k : ℕ). page-in fm k i) ks)
-  unfolding gathered all-records slots-in
-  gathered-pages [] = refl
-  gathered-pages (k ∷ ks) = ap (λ (rs : List Setting). records (slots-in fm k i) ++ rs) (gathered-pages ks)
-
   pub gathered-settings : (line : List ℕ) (n : ℕ) → Lines fm i n line → put-all [] (gathered fm i (take n line)) ≡ settings (pages fm i)
-  unfolding settings journal
-  gathered-settings line n h = ap (put-all []) (gathered-pages (take n line) ∙ ap all-records (line-pages fm i h))
+  unfolding settings journal gathered
+  gathered-settings line n h = ap (λ (ps : List Page). put-all [] (all-records ps)) (line-pages fm i h)

@@ -1,16 +1,16 @@
 -- The records of the used pages, by their places in the line.
 use Prim.Native.Nat.{ℕ, _+_, _*_, _≤_, _<_}
 use mathlib.Core.Path.{_≡_}
-use mathlib.Core.List.{List, [], _∷_, _++_}
+use mathlib.Core.List.{List, map}
 use lib.ListN.{length, getD}
 use Rattle.rules.specs.Page.{Form, size}
-use Rattle.rules.specs.Store.{Setting, records, free-slot}
+use Rattle.rules.specs.Store.{Setting, all-records, free-slot}
+use Rattle.rules.specs.Call.{page-in}
 use Rattle.survey.specs.States.{slots-in}
 
--- the records of the pages at those places of an image, one page after the other
+-- the records of the pages at those places of an image
 unfoldable pub gathered : (form : Form) → List ℕ → (places : List ℕ) → List Setting
-gathered f i [] = []
-gathered f i (k ∷ ks) = records (slots-in f k i) ++ gathered f i ks
+gathered f i ks = all-records (map (λ (k : ℕ). page-in f k i) ks)
 
 -- the first `used` of the places are those of pages of the image, and `free` is the free slot of the last one
 pub record Passes (fm : Form) (i line : List ℕ) (used free : ℕ) : Type 0 where

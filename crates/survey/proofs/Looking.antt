@@ -10,13 +10,13 @@ use lib.Dec.{eqb}
 use borrow.Author.Tests.{eqb-true, eqb-false, eq-eqb, ne-eqb}
 use Rattle.rules.specs.Page.{Form, size, State, bad, Page}
 use Rattle.rules.specs.Store.{Under, states, base, used, is-open, is-cleared, used-orders, count, active-index, active-order, active-slots, page-at, free-slot}
-use Rattle.rules.specs.Store.{used-pages, oldest-first, no-page}
+use Rattle.rules.specs.Store.{used-pages, oldest-first, each, no-page}
 use Rattle.rules.specs.Steps.{unclean}
 use Rattle.rules.specs.Call.{first-of, page-count, pages, page-in, wrong-size, no-store, repeats, all-used, OK, NO-STORE, DAMAGED}
 use Rattle.rules.proofs.Cut.{page-within, pages-long}
 use Rattle.rules.proofs.Truth.{by-cases, or-false-left}
 use Rattle.rules.proofs.Rows.{AllFail, all-fail}
-use Rattle.rules.proofs.Stores.{length-states, orders-used, count-all, count-open, count-used}
+use Rattle.rules.proofs.Stores.{each-append, length-states, orders-used, count-all, count-open, count-used}
 use Rattle.rules.proofs.Told.{page-cut}
 use Rattle.rules.proofs.Ready.{Sizes, right-sizes, some-used}
 use Rattle.pages.specs.Read.{as-state}
@@ -26,7 +26,7 @@ use Rattle.survey.specs.Ranks.{rank, spare, ranks, spares}
 use Rattle.survey.specs.Places.{taken-places, doubled, lined, Falls, at-places}
 use Rattle.survey.specs.declared.Look.{Look}
 use Rattle.survey.specs.Look.{pages-rows, pages-number, counted-number, Lines, Told}
-use Rattle.survey.proofs.Arrays.{getD-padded}
+use Rattle.survey.proofs.Arrays.{getD-padded, map-next}
 use Rattle.survey.proofs.Padded.{newest-padded}
 use Rattle.survey.proofs.Sizes.{counted-none, counted-some}
 use Rattle.survey.proofs.States.{states-looked, fit-padded, base-padded}
@@ -243,12 +243,19 @@ module _ {fm : Form} {i : List ℕ} {n u : ℕ} {xs : List Code} {rs : List ℕ}
     pub cleared-told : {c : ℕ} → c ≡ taken-places (take 32 sp) → c ≡ count is-cleared all
     cleared-told q = q ∙ ap (λ (ys : List ℕ). taken-places (take 32 ys)) spares-told ∙ count-spares all few
 
--- ---- what the line tells
+-- ---- what is told of all pages, and of the line
+
+-- each page is used, cleared or unclean
+pub counted : {fm : Form} {i : List ℕ} {look : Look} → Told fm i look
+    → look .used + look .cleared + count (unclean (base (states (pages fm i)))) (states (pages fm i)) ≡ look .count
+counted {fm} {i} t =
+    let all = states (pages fm i) in
+    omega (arith, count-all (base all) all, t .uses, t .clears, length-states (pages fm i), pages-long fm i, t .counts)
 
 -- the pages at the places of the line are the used ones, the oldest first
 module _ (fm : Form) (i : List ℕ) where
   placed : (ks : List ℕ) → ((k : ℕ) → k < length ks → getD ks k 0 < page-count fm i) → at-places (pages fm i) ks ≡ map (λ (k : ℕ). page-in fm k i) ks
-  unfolding at-places pages
+  unfolding at-places each pages
   placed [] h = refl
   placed (k ∷ ks) h =
       let l = h 0 (omega arith) in
@@ -256,6 +263,17 @@ module _ (fm : Form) (i : List ℕ) where
       (sym (append-nil (take 1 (drop k (pages fm i)))) ∙ at-place (pages fm i) k no-page (omega (arith, pages-long fm i))
       ∙ ap (λ (p : Page). p ∷ []) (page-cut fm (page-count fm i) k i l))
       (placed ks (λ j m. h (suc j) (omega arith)))
+
+  -- one page more of a line
+  pub line-next : {A : Type 0} (of : Page → List A) (line : List ℕ) (k : ℕ) → k < length line
+      → each of (map (λ (p : ℕ). page-in fm p i) (take (k + 1) line))
+      ≡ each of (map (λ (p : ℕ). page-in fm p i) (take k line)) ++ of (page-in fm (getD line k 0) i)
+  unfolding each
+  line-next {A} of line k l =
+      let told : ℕ → Page = λ p. page-in fm p i in
+      ap (each of) (map-next told line k 0 l)
+      ∙ each-append of (map told (take k line)) (told (getD line k 0) ∷ [])
+      ∙ ap (λ (xs : List A). each of (map told (take k line)) ++ xs) (append-nil (of (told (getD line k 0))))
 
   pub line-pages : {n : ℕ} {line : List ℕ} → Lines fm i n line
       → map (λ (k : ℕ). page-in fm k i) (take n line) ≡ oldest-first (used-pages (base (states (pages fm i))) (pages fm i))
@@ -268,20 +286,12 @@ module _ {fm : Form} {i : List ℕ} {look : Look} (ok : pages-number fm i ≡ 0)
   sizes : Sizes fm i
   sizes = right-sizes fm i (pages-sized fm i ok)
 
-  pub line-few : look .used ≤ 32
-  line-few =
-      let all = states (pages fm i) in
-      omega (arith, t .uses, count-all (base all) all, length-states (pages fm i), pages-long fm i, sizes .most)
+  -- the numbers told are those of at most 32 pages
+  pub told-few : (look .count ≤ 32) × (look .used ≤ 32) × (look .cleared ≤ 32)
+  told-few = let all = counted t in let n = t .counts in let m = sizes .most in (omega arith, omega arith, omega arith)
 
   pub line-places : (k : ℕ) → k < look .used → getD (look .line) k 0 < 32
   line-places k l = omega (arith, t .line .within k l, sizes .most)
 
   pub line-within : (k : ℕ) → k < look .used → getD (look .line) k 0 * size fm + size fm ≤ length i
   line-within k l = omega (arith, page-within (size fm) (page-count fm i) (getD (look .line) k 0) (t .line .within k l), sizes .sized)
-
--- each page is used, cleared or unclean
-pub counted : {fm : Form} {i : List ℕ} {look : Look} → Told fm i look
-    → look .used + look .cleared + count (unclean (base (states (pages fm i)))) (states (pages fm i)) ≡ look .count
-counted {fm} {i} t =
-    let all = states (pages fm i) in
-    omega (arith, count-all (base all) all, t .uses, t .clears, length-states (pages fm i), pages-long fm i, t .counts)

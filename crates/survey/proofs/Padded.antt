@@ -2,7 +2,7 @@
 -- numbers. Assumes nothing.
 use Prim.Native.Nat.{ℕ, zero, suc, _+_, _-_, _≤_, _<_}
 use mathlib.Core.Path.{_≡_, refl, sym, ap, _∙_}
-use mathlib.Core.Bool.{cond}
+use mathlib.Core.Bool.{not}
 use mathlib.Core.List.{List, [], _∷_, _++_, map, map-append}
 use native.Mathlib.Omega.{arith}
 use lib.ListN.{length, take, getD, set, replicate, length-append, length-map, length-replicate, List·getD-map}
@@ -11,7 +11,8 @@ use lib.Dec.{eqb, ltb}
 use Rattle.rules.specs.Page.{State, bad}
 use Rattle.rules.proofs.Truth.{by-cases}
 use Rattle.survey.specs.States.{padded}
-use Rattle.rules.specs.Store.{greatest}
+use Rattle.rules.specs.Store.{greatest, count}
+use Rattle.rules.proofs.Stores.{count-append}
 use Rattle.survey.specs.Places.{taken-places, greatest-below, newest, next-below, lined, Falls}
 use Rattle.survey.proofs.Arrays.{next-place, map-replicate, getD-padded}
 use Rattle.survey.proofs.Greatest.{newest-stays}
@@ -47,14 +48,13 @@ module _ (f : State → ℕ) (z : f bad ≡ 0) (ss : List State) where
 -- ---- what is asked of the numbers
 
 taken-zeros : (k : ℕ) → taken-places (replicate k 0) ≡ 0
-unfolding taken-places
+unfolding taken-places count
 taken-zeros zero = refl
 taken-zeros (suc k) = let e = taken-zeros k in omega arith
 
 pub taken-padded : (xs : List ℕ) (k : ℕ) → taken-places (xs ++ replicate k 0) ≡ taken-places xs
 unfolding taken-places
-taken-padded [] k = taken-zeros k
-taken-padded (x ∷ xs) k = ap (λ (n : ℕ). cond (eqb x 0) 0 1 + n) (taken-padded xs k)
+taken-padded xs k = omega (arith, count-append (λ (r : ℕ). not (eqb r 0)) xs (replicate k 0), taken-zeros k)
 
 greatest-zeros : (m k : ℕ) → greatest-below m (replicate k 0) ≡ 0
 unfolding greatest-below greatest

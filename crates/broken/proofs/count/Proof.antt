@@ -6,18 +6,17 @@ use native.Mathlib.Omega.{arith}
 use denote.Ref.{now}
 use lib.ListN.{length, getD}
 use Rattle.rules.specs.Page.{Form, size}
-use Rattle.rules.specs.Store.{count}
-use Rattle.rules.specs.Listing.{conditions}
+use Rattle.rules.specs.Store.{each, count}
 use Rattle.pages.specs.Read.{as-form}
-use Rattle.survey.proofs.Looking.{line-few, line-places, line-within}
+use Rattle.survey.proofs.Looking.{told-few, line-places, line-within}
 use Rattle.broken.specs.Counts.{Counts}
-use Rattle.broken.proofs.Counting.{counts-more, first, next-page, line-counts, page-few}
+use Rattle.broken.proofs.Counting.{counts-more, first-conditions, next-page, line-counts, page-few}
 use Rattle.broken.proofs.count.Statement.{statement}
 use Rattle.broken.proofs.count.Tie as tie
 
 abbrev Inv-loop : tie.InvT-loop
 Inv-loop image form look line broken₀ k₀ broken k =
-    (k ≤ look .used) × (broken .half + broken .spoiled ≤ k * 509) × Counts (first (as-form form) image line k) broken
+    (k ≤ look .used) × (broken .half + broken .spoiled ≤ k * 509) × Counts (first-conditions (as-form form) image line k) broken
 
 abbrev μ-loop : tie.MeasureT-loop
 μ-loop image form look line broken₀ k₀ broken k = look .used - k
@@ -26,10 +25,10 @@ of-requires : tie.Need-of-requires Inv-loop μ-loop
 of-requires c κs = tt
 
 loop-holds : tie.Need-loop-holds Inv-loop μ-loop
-unfolding count conditions
+unfolding count each
 loop-holds c =
     let none = c .of .ensures in
-    (omega arith, omega (arith, none .0, none .1), record { halves = none .0; spoileds = none .1 })
+    (omega arith, omega (arith, none .0, none .1), record { half = none .0; spoiled = none .1 })
 
 -- in the loop
 module _ (c : tie.Then1 Inv-loop μ-loop) where
@@ -52,7 +51,7 @@ module _ (c : tie.Then1 Inv-loop μ-loop) where
   more = omega arith
 
   few : entry .args .look .used ≤ 32
-  few = line-few (entry .pre .1 .0) (entry .pre .1 .1)
+  few = told-few (entry .pre .1 .0) (entry .pre .1 .1) .1
 
   within : place * size form + size form ≤ length image
   within = line-within (entry .pre .1 .0) (entry .pre .1 .1) k more
@@ -101,11 +100,12 @@ returns c =
     let start = c .before .before .before .before .before .before in
     let l = c .before .before .loop in
     let look = start .args .look in
+    let line = look .line in
     let fm = as-form (start .args .form) in
     let image = now (start .args .image) in
     let done : l .k ≡ look .used = omega arith in (
-      line-counts fm image (look .line) (start .pre .1 .1 .line) (subst (λ (n : ℕ). Counts (first fm image (look .line) n) (l .broken)) done (l .inv .2)),
-      omega (arith, l .inv .1, line-few (start .pre .1 .0) (start .pre .1 .1)),
+      line-counts fm image line (start .pre .1 .1 .line) (subst (λ (n : ℕ). Counts (first-conditions fm image line n) (l .broken)) done (l .inv .2)),
+      omega (arith, l .inv .1, told-few (start .pre .1 .0) (start .pre .1 .1) .1),
     )
 
 pub count-spec : {M : Type 1} → statement M

@@ -47,25 +47,25 @@ returns : tie.Need-returns
 unfolding count is-half is-spoiled
 returns c =
     told (as-word (c .before .before .before .before .args .w)) (c .before .enum-told .given .1) (c .before .before .before .slot-condition .ensures)
-    (record { halves = c .of .ensures .0; spoileds = c .of .ensures .1 })
+    (record { half = c .of .ensures .0; spoiled = c .of .ensures .1 })
 
 returns-2 : tie.Need-returns-2
 unfolding count is-half is-spoiled
 returns-2 c =
     told (as-word (c .before .before .before .before .args .w)) (c .before .enum-told2 .given .1) (c .before .before .before .slot-condition .ensures)
-    (record { halves = c .of2 .ensures .0; spoileds = c .of2 .ensures .1 })
+    (record { half = c .of2 .ensures .0; spoiled = c .of2 .ensures .1 })
 
 returns-3 : tie.Need-returns-3
 unfolding count is-half is-spoiled
 returns-3 c =
     told (as-word (c .before .before .before .before .args .w)) (c .before .enum-told3 .given .1) (c .before .before .before .slot-condition .ensures)
-    (record { halves = c .of3 .ensures .0; spoileds = c .of3 .ensures .1 })
+    (record { half = c .of3 .ensures .0; spoiled = c .of3 .ensures .1 })
 
 returns-4 : tie.Need-returns-4
 unfolding count is-half is-spoiled
 returns-4 c =
     told (as-word (c .before .before .before .before .args .w)) (c .before .enum-told4 .given .1) (c .before .before .before .slot-condition .ensures)
-    (record { halves = c .of4 .ensures .0; spoileds = c .of4 .ensures .1 })
+    (record { half = c .of4 .ensures .0; spoiled = c .of4 .ensures .1 })
 
 pub of-slot-spec : {M : Type 1} → statement M
 of-slot-spec =

@@ -26,7 +26,7 @@ loop-holds : tie.Need-loop-holds Inv-loop μ-loop
 unfolding count
 loop-holds c =
     let none = c .of .ensures in
-    (omega arith, omega (arith, none .0, none .1), record { halves = none .0; spoileds = none .1 })
+    (omega arith, omega (arith, none .0, none .1), record { half = none .0; spoiled = none .1 })
 
 mul-word-at : tie.Need-mul-word-at Inv-loop μ-loop
 mul-word-at c = omega arith

@@ -14,12 +14,13 @@ use Rattle.pages.specs.Read.{as-form}
 use Rattle.settings.proofs.Tables.{holds-none}
 use Rattle.store.specs.declared.Store.{Store}
 use Rattle.store.specs.Opened.{Opens}
+use Rattle.survey.proofs.Looking.{told-few}
 use Rattle.store.proofs.Values.{pages-accepted, look-told}
 use Rattle.broken.specs.declared.Broken.{Broken}
 use Rattle.broken.specs.Counts.{Counts}
 use Rattle.lines.proofs.Decimal.{decimal-length}
 use Rattle.lines.proofs.Appending.{appends-then, appends-written}
-use Rattle.lines.proofs.Told.{told-pages, told-held, told-line-length, first, listing-room, listing-accepted, listing-refused}
+use Rattle.lines.proofs.Told.{told-held, told-line-length, first, listing-room, listing-accepted, listing-refused}
 use Rattle.lines.proofs.list.Statement.{statement}
 use Rattle.lines.proofs.list.Tie as tie
 
@@ -84,7 +85,7 @@ put-first-requires : tie.Need-put-first-requires
 put-first-requires c κs =
     let k = c .before in
     let o = opens (opened k) in
-    let p = told-pages o (right k) in
+    let p = told-few (pages-accepted o (right k)) (look-told o (right k)) in
     ((p .0, p .1, p .2, look-told o (right k) .fits, told-held o (right k), k .count .ensures .1), omega arith)
 
 put-settings-requires : tie.Need-put-settings-requires

@@ -1,7 +1,6 @@
 -- `lines::put_setting` meets its contract: one line of a setting. Assumes nothing.
-use Rattle.rules.specs.Listing.{decimal, space}
+use Rattle.rules.specs.Listing.{decimal, space, setting-line}
 use native.Mathlib.Omega.{arith}
-use Rattle.lines.specs.Appended.{setting-line}
 use Rattle.lines.proofs.Appending.{appends-then, appends-field}
 use Rattle.lines.proofs.Decimal.{decimal-length}
 use borrow.Author.Needs.{needs}

@@ -5,7 +5,7 @@ use mathlib.Core.List.{List}
 use native.Mathlib.Omega.{arith}
 use denote.Ref.{now}
 use lib.ListN.{length, getD, take}
-use Rattle.rules.specs.Store.{Setting}
+use Rattle.rules.specs.Store.{Setting, setting}
 use Rattle.rules.specs.Listing.{setting-lines}
 use Rattle.settings.specs.Held.{Holds}
 use Rattle.lines.specs.Appended.{Appends}
@@ -52,7 +52,7 @@ loop-again c =
     let l = here .loop in
     let below : l .i < a .held = omega arith in
     let few : a .held ≤ 192 = omega arith in
-    let short = setting-line-length (getD (now (a .addresses)) (l .i) 0) (getD (now (a .values)) (l .i) 0) in (
+    let short = setting-line-length (setting (getD (now (a .addresses)) (l .i) 0) (getD (now (a .values)) (l .i) 0)) in (
       omega arith,
       omega arith,
       omega arith,

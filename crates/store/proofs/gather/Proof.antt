@@ -6,7 +6,7 @@ use mathlib.Core.List.{[]}
 use native.Mathlib.Omega.{arith}
 use denote.Ref.{now}
 use lib.ListN.{take}
-use Rattle.rules.specs.Store.{put-all}
+use Rattle.rules.specs.Store.{each, put-all}
 use Rattle.pages.specs.Read.{as-form}
 use Rattle.settings.specs.Held.{Holds}
 use Rattle.store.specs.Gather.{gathered}
@@ -22,7 +22,7 @@ abbrev μ-loop : tie.MeasureT-loop
 μ-loop image form line used free addresses₀ values₀ held₀ k₀ addresses values held k = used - k
 
 loop-holds : tie.Need-loop-holds Inv-loop μ-loop
-unfolding gathered put-all
+unfolding gathered each put-all
 loop-holds c = (omega arith, c .before .pre .1 .1)
 
 -- so many slots are passed
