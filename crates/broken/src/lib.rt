@@ -1,6 +1,5 @@
 // The words that broke (L6): how many slots of the used pages are half-written, and how many are spoiled.
 use pages::Form;
-use pages::HEADER_SIZE;
 use survey::Look;
 use words::Condition;
 use words::Word;
@@ -71,9 +70,7 @@ fn of_page(image: &[u8], form: Form, page: usize) -> Broken
     requires { ⌜ Lawful form × (page ≤ 32) × (page * size (as-form form) + size (as-form form) ≤ length (now image)) ⌝ }
     ensures { λ r. ⌜ Counts (map slot-condition (slots-in (as-form form) page (now (image .entry)))) r ⌝ }
 {
-    let at = form.start(page) + HEADER_SIZE;
-    let end = at + form.slots * 4;
-    of_slots(&image[at..end])
+    of_slots(survey::slots_of(image, form, page, form.slots))
 }
 
 // The used pages of an image that is not refused, after one look at it. 32 pages of 509 slots, the most that a lawful form has, are

@@ -1,6 +1,5 @@
 // The store in an image: the one look that serves a call, at the headers of all pages and at the slots of the used ones.
 use pages::Form;
-use pages::HEADER_SIZE;
 use pages::PAGES_MAX;
 use settings::HELD_MAX;
 use survey::DAMAGED;
@@ -32,9 +31,12 @@ fn put_page(
     ensures { λ r. ⌜ Become (λ t. put-all t (records (take n (slots-in (as-form form) page (now (image .entry))))))
         (now (addresses .entry)) (now (values .entry)) held (now (addresses .exit)) (now (values .exit)) r ⌝ }
 {
-    let at = form.start(page) + HEADER_SIZE;
-    let end = at + n * 4;
-    settings::put_slots(&image[at..end], addresses, values, held)
+    settings::put_slots(
+        survey::slots_of(image, form, page, n),
+        addresses,
+        values,
+        held,
+    )
 }
 
 // The records of the used pages put into an empty table, one page after the other, the oldest first. Those of the last page, the

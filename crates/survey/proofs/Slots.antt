@@ -5,7 +5,7 @@ use mathlib.Core.Path.{_≡_, refl, sym, ap, _∙_}
 use mathlib.Core.List.{List, [], _∷_}
 use native.Mathlib.Omega.{arith}
 use lib.ListN.{length, take, drop, length-drop}
-use lib.Seq.{take-nil, take-take, drop-drop}
+use lib.Seq.{take-nil, take-take, take-all, drop-drop}
 use Rattle.rules.specs.Flash.{bytes-at}
 use Rattle.rules.specs.Word.{Word, word, words}
 use Rattle.rules.specs.Page.{Form, word-count, size, Page, page, slots}
@@ -69,8 +69,5 @@ slots-part fm k n i from to h ef et =
     ∙ ap (take n) (sym (slots-from fm k i)))
 
 -- all of them
-pub slots-whole : (fm : Form) (k : ℕ) (i : List ℕ) (from to : ℕ) → from ≡ k * size fm + 12 → to ≡ from + fm .slot-count * 4
-    → words (take (to - from) (drop from i)) ≡ slots-in fm k i
-slots-whole fm k i from to ef et =
-    let long : to - from ≡ 4 * fm .slot-count = omega arith in
-    rw (long, ef) (sym (slots-from fm k i))
+pub slots-all : (fm : Form) (k : ℕ) (i : List ℕ) → k * size fm + size fm ≤ length i → take (fm .slot-count) (slots-in fm k i) ≡ slots-in fm k i
+slots-all fm k i l = take-all (fm .slot-count) (slots-in fm k i) (omega (arith, slots-many fm k i l))
