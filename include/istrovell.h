@@ -99,7 +99,7 @@ struct istrovell_reading {
 /* The answer of the pairing lookup. */
 struct istrovell_pairing {
     uint8_t number;
-    bool paired; /* none of the digits is 255 */
+    bool paired; /* all four addresses are held, whatever their values: 0 and 255 are digits like any other */
     uint8_t digit0;
     uint8_t digit1;
     uint8_t digit2;
@@ -127,10 +127,12 @@ struct istrovell_stepped istrovell_write(uint8_t *image, size_t length, uint16_t
 /* The value at the address. Answers 0, 1, 2, 3, 5 or 8. Recovery need not have run. */
 struct istrovell_reading istrovell_read(const uint8_t *image, size_t length, uint16_t address);
 
-/* The same with value 255, and number 0, for an address that is not held. Answers 0, 1, 2, 3 or 5. */
+/* The same with value 0, and number 0, for an address that is not held: what a kiln-side display gets for an offset that
+ * nobody has set. One that was set to 0 answers the same; istrovell_read tells them apart. Answers 0, 1, 2, 3 or 5. */
 struct istrovell_reading istrovell_blank_read(const uint8_t *image, size_t length, uint16_t address);
 
-/* The blank reads of addresses 16 to 19, and whether they are a pairing code. Answers 0 to 3. */
+/* The blank reads of addresses 16 to 19 as digits, and whether they are a pairing code. A digit whose address is not held is
+ * 0, which may be a digit too, so ask paired. Answers 0 to 3. */
 struct istrovell_pairing istrovell_lookup(const uint8_t *image, size_t length);
 
 #ifdef __cplusplus

@@ -34,20 +34,28 @@ static bool reads(struct istrovell_reading answer, uint8_t number, uint8_t value
     return answer.number == number && answer.value == value;
 }
 
+static bool finds(struct istrovell_pairing answer, uint8_t number, bool paired, const uint8_t *digits)
+{
+    return answer.number == number && answer.paired == paired && answer.digit0 == digits[0] &&
+           answer.digit1 == digits[1] && answer.digit2 == digits[2] && answer.digit3 == digits[3];
+}
+
 static void nothing_lent(void)
 {
-    const struct istrovell_pairing none = istrovell_lookup(NULL, 0);
+    const uint8_t none[] = {0, 0, 0, 0};
     expect(istrovell_format(NULL, 0) == ISTROVELL_SIZE, "format of nothing");
     expect(refused(istrovell_recover(NULL, 0, ISTROVELL_ALL_STEPS), ISTROVELL_SIZE), "recovery of nothing");
     expect(refused(istrovell_write(NULL, 0, 5, 65, ISTROVELL_ALL_STEPS), ISTROVELL_SIZE), "write to nothing");
     expect(reads(istrovell_read(NULL, 0, 5), ISTROVELL_SIZE, 0), "read of nothing");
     expect(reads(istrovell_blank_read(NULL, 0, 5), ISTROVELL_SIZE, 0), "blank read of nothing");
-    expect(none.number == ISTROVELL_SIZE && !none.paired && none.digit0 == 0 && none.digit3 == 0, "lookup in nothing");
+    expect(finds(istrovell_lookup(NULL, 0), ISTROVELL_SIZE, false, none), "lookup in nothing");
 }
 
-/* Each member of each answer comes across; the image begins at an odd address. */
+/* Each member of each answer comes across; the image begins at an odd address. The last digit is 0, so that only `paired`
+ * says that it was written. */
 static void one_store(void)
 {
+    const uint8_t code[] = {9, 255, 7, 0};
     static uint8_t bytes[1 + 2 * ISTROVELL_PAGE_SIZE];
     uint8_t *const image = bytes + 1;
     const size_t length = 2 * ISTROVELL_PAGE_SIZE;
@@ -59,15 +67,16 @@ static void one_store(void)
     expect(stepped.number == ISTROVELL_OK && stepped.finished && stepped.steps == 0, "recovery");
     for (uint8_t digit = 0; digit < 4; digit++) {
         const uint16_t address = (uint16_t)(ISTROVELL_PAIRING_ADDRESS + digit);
-        stepped = istrovell_write(image, length, address, (uint8_t)(9 - digit), ISTROVELL_ALL_STEPS);
+        if (digit == 3)
+            expect(finds(istrovell_lookup(image, length), ISTROVELL_OK, false, code), "lookup without the last digit");
+        stepped = istrovell_write(image, length, address, code[digit], ISTROVELL_ALL_STEPS);
         expect(stepped.number == ISTROVELL_OK && stepped.finished && stepped.steps == 2, "a write");
     }
-    expect(reads(istrovell_read(image, length, 17), ISTROVELL_OK, 8), "read");
-    expect(reads(istrovell_blank_read(image, length, 5), ISTROVELL_OK, 255), "blank read");
+    expect(finds(istrovell_lookup(image, length), ISTROVELL_OK, true, code), "lookup");
+    expect(reads(istrovell_read(image, length, 18), ISTROVELL_OK, 7), "read");
+    expect(reads(istrovell_blank_read(image, length, 17), ISTROVELL_OK, 255), "blank read");
+    expect(reads(istrovell_blank_read(image, length, 5), ISTROVELL_OK, 0), "blank read of an address that is not held");
     expect(reads(istrovell_read(image, length, ISTROVELL_ADDRESS_MAX + 1), ISTROVELL_ADDRESS, 0), "address 65,535");
-    const struct istrovell_pairing pairing = istrovell_lookup(image, length);
-    expect(pairing.number == ISTROVELL_OK && pairing.paired, "lookup");
-    expect(pairing.digit0 == 9 && pairing.digit1 == 8 && pairing.digit2 == 7 && pairing.digit3 == 6, "the digits");
 }
 
 int main(void)

@@ -253,6 +253,100 @@ impl Store for Eager {
     }
 }
 
+/// Stores of which only wish 6 is wrong: what is blank, and what is a pairing code.
+#[derive(Clone, Copy, Debug, PartialEq, Eq)]
+pub enum WrongPairing {
+    /// A blank read of an address that isn't held answers 255, as before wish 6.
+    BlankIs255,
+    /// A blank read of an address that isn't held answers NOT HELD.
+    BlankIsNotHeld,
+    /// A write of 0 to an address that isn't held has no steps, as if its blank read told that 0 is held.
+    BlankIsHeld,
+    /// A digit whose address isn't held is 255, as before wish 6.
+    DigitIs255,
+    /// A code is whole if no digit is 255, as before wish 6; but a digit whose address isn't held is 0 now.
+    NoDigitIs255,
+    /// A digit 255 counts as not held, as before wish 6.
+    Held255IsNone,
+    /// A digit 0 counts as not held.
+    Held0IsNone,
+    /// Four digits 255 are no code.
+    Four255sAreNone,
+    /// Four digits 0 are no code.
+    Four0sAreNone,
+    /// A code is whole with any three of its digits.
+    ThreeSuffice,
+    /// A code is whole without the digit of this place, counted from 0, which isn't looked at.
+    WholeWithout(usize),
+}
+
+pub const WRONG_PAIRINGS: [WrongPairing; 14] = [
+    WrongPairing::BlankIs255,
+    WrongPairing::BlankIsNotHeld,
+    WrongPairing::BlankIsHeld,
+    WrongPairing::DigitIs255,
+    WrongPairing::NoDigitIs255,
+    WrongPairing::Held255IsNone,
+    WrongPairing::Held0IsNone,
+    WrongPairing::Four255sAreNone,
+    WrongPairing::Four0sAreNone,
+    WrongPairing::ThreeSuffice,
+    WrongPairing::WholeWithout(0),
+    WrongPairing::WholeWithout(1),
+    WrongPairing::WholeWithout(2),
+    WrongPairing::WholeWithout(3),
+];
+
+impl WrongPairing {
+    /// Whether the code is whole, by what its addresses hold.
+    fn paired(self, code: [Option<u8>; 4]) -> bool {
+        let held = |digit: &Option<u8>| digit.is_some();
+        let whole = code.iter().all(held);
+        match self {
+            WrongPairing::NoDigitIs255 => !code.contains(&Some(255)),
+            WrongPairing::Held255IsNone => whole && !code.contains(&Some(255)),
+            WrongPairing::Held0IsNone => whole && !code.contains(&Some(0)),
+            WrongPairing::Four255sAreNone => whole && code != [Some(255); 4],
+            WrongPairing::Four0sAreNone => whole && code != [Some(0); 4],
+            WrongPairing::ThreeSuffice => code.iter().filter(|digit| held(digit)).count() >= 3,
+            WrongPairing::WholeWithout(place) => (0..4).all(|other| other == place || held(&code[other])),
+            _ => whole,
+        }
+    }
+}
+
+impl Store for WrongPairing {
+    fn format(&self, image: &mut [u8]) -> u8 {
+        Second.format(image)
+    }
+    fn recover(&self, image: &mut [u8], allowance: u16) -> Stepped {
+        Second.recover(image, allowance)
+    }
+    fn write(&self, image: &mut [u8], address: u16, value: u8, allowance: u16) -> Stepped {
+        let idle = *self == WrongPairing::BlankIsHeld && Second.blank_read(image, address).value == value;
+        let answer = Second.write(image, address, value, if idle { 0 } else { allowance });
+        Stepped { finished: answer.finished || idle && answer.number == OK, ..answer }
+    }
+    fn read(&self, image: &[u8], address: u16) -> Reading {
+        Second.read(image, address)
+    }
+    fn blank_read(&self, image: &[u8], address: u16) -> Reading {
+        match (self, Second.read(image, address)) {
+            (WrongPairing::BlankIs255, Reading { number: NOT_HELD, .. }) => Reading { number: OK, value: 255 },
+            (WrongPairing::BlankIsNotHeld, reading) => reading,
+            _ => Second.blank_read(image, address),
+        }
+    }
+    fn lookup(&self, image: &[u8]) -> Pairing {
+        if let Err(number) = test_store(image) {
+            return Pairing::refused(number);
+        }
+        let code = [16, 17, 18, 19].map(|address| value(image, address));
+        let blank = if *self == WrongPairing::DigitIs255 { 255 } else { 0 };
+        Pairing { number: OK, paired: self.paired(code), digits: code.map(|digit| digit.unwrap_or(blank)) }
+    }
+}
+
 /// Listings of which only the count of the broken words is wrong.
 #[derive(Clone, Copy, Debug, PartialEq, Eq)]
 pub enum WrongListing {

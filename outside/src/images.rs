@@ -6,7 +6,7 @@ use crate::rng::Rng;
 use crate::rules::*;
 use crate::steps::*;
 use crate::word::*;
-use crate::{format, recover};
+use crate::{format, recover, write};
 
 const WRONG_LENGTHS: [usize; 17] =
     [0, 1, 2, 3, 512, 1023, 1024, 1025, 2047, 2049, 3071, 3073, 32_767, 32_769, 33_792, 34_816, 65_536];
@@ -18,7 +18,8 @@ pub fn image(seed: u64) -> Vec<u8> {
     let mut rng = Rng::new(seed);
     let rng = &mut rng;
     match rng.below(100) {
-        0..=29 => worn(rng),
+        0..=24 => worn(rng),
+        25..=29 => paired(rng),
         30..=61 => sensible(rng),
         62..=66 => worn_unevenly(rng),
         67..=79 => wild(rng),
@@ -57,6 +58,22 @@ pub fn some_addresses(rng: &mut Rng, count: usize) -> Vec<u16> {
     addresses
 }
 
+/// A value for a setting, often one of the ends: 0 is what blank reads as, and 255 what it read as once.
+pub fn some_value(rng: &mut Rng) -> u8 {
+    let any = rng.byte();
+    rng.pick(&[0, 255, any, any, any, any, any, any])
+}
+
+/// The same, but not the value that the address has.
+fn another_value(held: Option<u8>, rng: &mut Rng) -> u8 {
+    let value = some_value(rng);
+    if held == Some(value) {
+        value.wrapping_add(1)
+    } else {
+        value
+    }
+}
+
 // Worn stores: what our own calls leave, with failing steps among them.
 
 fn worn(rng: &mut Rng) -> Vec<u8> {
@@ -69,7 +86,7 @@ fn worn(rng: &mut Rng) -> Vec<u8> {
         let count = if rng.one_in(3) { rng.below(SLOTS) } else { SLOTS - rng.below(3) };
         fill_active(&mut image, count, &pool, rng);
         for _ in 0..1 + rng.below(3) {
-            let write = (rng.pick(&pool), rng.byte());
+            let write = (rng.pick(&pool), some_value(rng));
             if !troubled_write(&mut image, write, rng) {
                 return image;
             }
@@ -86,7 +103,7 @@ pub fn fill_active(image: &mut [u8], count: usize, pool: &[u16], rng: &mut Rng) 
     let free = free_slot(page_at(image, active)).unwrap_or(SLOTS);
     for slot in free..SLOTS.min(free + count) {
         let address = rng.pick(pool);
-        let value = values.get(&address).map_or(rng.byte(), |value| value.wrapping_add(1));
+        let value = another_value(values.get(&address).copied(), rng);
         values.insert(address, value);
         for step in record_steps(active, slot, address, value) {
             do_step(image, step);
@@ -113,6 +130,20 @@ fn troubled_write(image: &mut [u8], (address, value): (u16, u8), rng: &mut Rng) 
         }
     }
     !rng.one_in(6) && recover(image, u16::MAX).finished
+}
+
+/// A worn store that was then paired, if it took the writes: often with one digit four times, or with some left out.
+fn paired(rng: &mut Rng) -> Vec<u8> {
+    let mut image = worn(rng);
+    let any = some_value(rng);
+    let usual = rng.pick(&[0, 255, any]);
+    for address in 16..20 {
+        let digit = if rng.one_in(8) { some_value(rng) } else { usual };
+        if !rng.one_in(6) {
+            write(&mut image, address, digit, u16::MAX);
+        }
+    }
+    image
 }
 
 /// Does the steps before `at`; power fails in that one.
@@ -192,7 +223,7 @@ fn half_written_word(word: Word) -> Word {
 /// What stands in a slot that no address of the pool has to have.
 fn filler_word(pool: &[u16], rng: &mut Rng) -> Word {
     let address = if pool.is_empty() { NO_ADDRESS } else { rng.pick(pool) };
-    let value = rng.byte();
+    let value = some_value(rng);
     match rng.below(20) {
         0 => record(NO_ADDRESS, value),
         1 | 2 => torn_word(record(address, value), rng),
@@ -251,7 +282,7 @@ fn used_pages_of(orders: &[u32], based: bool, rng: &mut Rng) -> Vec<Vec<u8>> {
     }
     rng.shuffle(&mut places);
     for (&address, (index, slot)) in pool.iter().zip(places) {
-        put(&mut all[index], slot_offset(slot), record(address, rng.byte()));
+        put(&mut all[index], slot_offset(slot), record(address, some_value(rng)));
     }
     all
 }

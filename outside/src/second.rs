@@ -179,7 +179,7 @@ pub fn read(image: &[u8], address: u16) -> Reading {
 pub fn blank_read(image: &[u8], address: u16) -> Reading {
     let reading = read(image, address);
     if reading.number == NOT_HELD {
-        return Reading { number: OK, value: 255 };
+        return Reading { number: OK, value: 0 };
     }
     reading
 }
@@ -188,8 +188,8 @@ pub fn lookup(image: &[u8]) -> Pairing {
     if let Err(number) = test_store(image) {
         return Pairing::refused(number);
     }
-    let digits = [16, 17, 18, 19].map(|address| value(image, address).unwrap_or(255));
-    Pairing { number: OK, paired: !digits.contains(&255), digits }
+    let code = [16, 17, 18, 19].map(|address| value(image, address));
+    Pairing { number: OK, paired: !code.contains(&None), digits: code.map(|digit| digit.unwrap_or(0)) }
 }
 
 /// What the listing program prints for this input.

@@ -208,18 +208,20 @@ impl<P: Plan> Store for Stepwise<P> {
     }
     fn blank_read(&self, image: &[u8], address: u16) -> Reading {
         match self.value(image, address) {
-            Ok(held) => Reading { number: OK, value: held.unwrap_or(255) },
+            Ok(held) => Reading { number: OK, value: held.unwrap_or(0) },
             Err(number) => Reading::refused(number),
         }
     }
     fn lookup(&self, image: &[u8]) -> Pairing {
-        let mut digits = [0; 4];
-        for (address, digit) in (16..).zip(digits.iter_mut()) {
-            match self.value(image, address) {
-                Ok(held) => *digit = held.unwrap_or(255),
-                Err(number) => return Pairing::refused(number),
-            }
+        let seen = self.0.seen(image);
+        if let Err(number) = test_store(&seen) {
+            return Pairing::refused(number);
         }
-        Pairing { number: OK, paired: digits.iter().all(|&digit| digit != 255), digits }
+        let held = held(&seen);
+        let mut digits = [0; 4];
+        for (address, &value) in held.range(16..20) {
+            digits[usize::from(address - 16)] = value;
+        }
+        Pairing { number: OK, paired: held.range(16..20).count() == 4, digits }
     }
 }

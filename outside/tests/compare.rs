@@ -4,16 +4,16 @@
 //! `second` does them against the lists of steps of `steps`, run one step at a time.
 //!
 //! A broken store that this catches: a write that does all its steps at allowance 1 (`Eager`); the others are in
-//! `broken_stores_are_caught`, and listings that miscount in `wrong_listings_are_caught`. ISTROVELL_IMAGES says how
-//! many images, ISTROVELL_SEED runs one alone.
+//! `broken_stores_are_caught` and `wrong_pairings_are_caught`, and listings that miscount in `wrong_listings_are_caught`.
+//! ISTROVELL_IMAGES says how many images, ISTROVELL_SEED runs one alone.
 
 use std::io::Write;
 use std::process::{Command, Stdio};
 use std::time::Instant;
 
-use outside::broken::{Broken, Eager, WRONG_LISTINGS, WRONG_WEARS};
+use outside::broken::{Broken, Eager, WRONG_LISTINGS, WRONG_PAIRINGS, WRONG_WEARS};
 use outside::guard::{note_seed, Guarded, Place};
-use outside::images;
+use outside::images::{self, some_value};
 use outside::page::*;
 use outside::rng::{seeds, Rng};
 use outside::rules::*;
@@ -85,17 +85,41 @@ impl Answer {
 #[derive(Default)]
 struct Tally {
     numbers: [[u64; 9]; 6],
-    paired: u64,
+    codes: Codes,
     /// Accepted writes by the greatest number of steps they did: 0, 1, 2, 3, 4, more.
     write_steps: [u64; 6],
     unfinished: u64,
 }
 
+/// What the lookups found.
+#[derive(Debug, Default)]
+struct Codes {
+    whole: u64,
+    with_a_0: u64,
+    with_a_255: u64,
+    /// Codes of which one digit was missing.
+    of_three: u64,
+}
+
+impl Codes {
+    fn count(&mut self, image: &[u8], answer: Pairing) {
+        self.whole += u64::from(answer.paired);
+        self.with_a_0 += u64::from(answer.paired && answer.digits.contains(&0));
+        self.with_a_255 += u64::from(answer.paired && answer.digits.contains(&255));
+        self.of_three += u64::from(!answer.paired && held(image).range(16..20).count() == 3);
+    }
+
+    fn assert_complete(&self) {
+        let counts = [self.whole, self.with_a_0, self.with_a_255, self.of_three];
+        assert!(counts.iter().all(|&count| count > 0), "{self:?}");
+    }
+}
+
 impl Tally {
-    fn count(&mut self, call: Call, answer: Answer) {
+    fn count(&mut self, image: &[u8], call: Call, answer: Answer) {
         self.numbers[call.index()][usize::from(answer.number())] += 1;
         match answer {
-            Answer::Pairing(answer) => self.paired += u64::from(answer.paired),
+            Answer::Pairing(answer) if answer.number == OK => self.codes.count(image, answer),
             Answer::Stepped(answer) if answer.number == OK && call.index() == 2 => {
                 self.write_steps[usize::from(answer.steps).min(5)] += 1;
                 self.unfinished += u64::from(!answer.finished);
@@ -109,7 +133,7 @@ impl Tally {
             println!("  {name:10} answers by number 0 to 8: {numbers:?}");
         }
         println!("  writes of 0, 1, 2, 3, 4 and more steps: {:?}, unfinished {}", self.write_steps, self.unfinished);
-        println!("  lookups that found a pairing: {}", self.paired);
+        println!("  pairing codes: {:?}", self.codes);
     }
 
     /// Each call gave each of its numbers, and no other.
@@ -123,7 +147,8 @@ impl Tally {
                 assert_eq!(met, expected, "{} met number {number}: {met}", CALL_NAMES[call]);
             }
         }
-        assert!(self.paired > 0 && self.write_steps.iter().all(|&count| count > 0));
+        self.codes.assert_complete();
+        assert!(self.write_steps.iter().all(|&count| count > 0));
     }
 }
 
@@ -144,7 +169,7 @@ fn compare_call(image: &[u8], call: Call, stores: [&dyn Store; 2], tally: &mut T
     if answers[0].number() != OK && images[0] != image {
         return Err(format!("{call:?}: refused with {:?}, yet the image changed", answers[0]));
     }
-    tally.count(call, answers[0]);
+    tally.count(image, call, answers[0]);
     let [after, _] = images;
     Ok(after)
 }
@@ -174,7 +199,8 @@ fn held_value(image: &[u8], address: u16) -> Option<u8> {
     test_store(image).ok().and_then(|()| value(image, address))
 }
 
-/// The first address gets every allowance; the others one for the held value and one for another value.
+/// The first address gets every allowance; the others one for the value that a blank read gives, which takes steps only if
+/// it isn't held, and one for another value.
 fn writes_for(image: &[u8], addresses: &[u16], rng: &mut Rng) -> Vec<Call> {
     let mut calls = Vec::new();
     let main = addresses[0];
@@ -186,9 +212,9 @@ fn writes_for(image: &[u8], addresses: &[u16], rng: &mut Rng) -> Vec<Call> {
         calls.push(Call::Write { address: main, value: other, allowance });
     }
     for &address in addresses {
-        let held = held_value(image, address).unwrap_or(255);
-        calls.push(Call::Write { address, value: held, allowance: some_allowance(rng) });
-        calls.push(Call::Write { address, value: rng.byte(), allowance: some_allowance(rng) });
+        let blank = held_value(image, address).unwrap_or(0);
+        calls.push(Call::Write { address, value: blank, allowance: some_allowance(rng) });
+        calls.push(Call::Write { address, value: some_value(rng), allowance: some_allowance(rng) });
     }
     calls
 }
@@ -207,7 +233,7 @@ fn calls_for(image: &[u8], rng: &mut Rng) -> Vec<Call> {
 }
 
 /// All six calls on the image of this seed; and writes on the recovered image too, because most crafted images are
-/// unclean, and on what the first write leaves.
+/// unclean, and on what the first write leaves, with a lookup at last.
 fn compare_image(seed: u64, stores: [&dyn Store; 2], tally: &mut Tally) -> Result<(), String> {
     let mut rng = Rng::new(!seed);
     let image = images::image(seed);
@@ -223,10 +249,11 @@ fn compare_image(seed: u64, stores: [&dyn Store; 2], tally: &mut Tally) -> Resul
         }
     }
     for address in addresses {
-        let call = Call::Write { address, value: rng.byte(), allowance: u16::MAX };
+        let call = Call::Write { address, value: some_value(&mut rng), allowance: u16::MAX };
         latest = compare_call(&latest, call, stores, tally)?;
         compare_call(&latest, Call::Read { address }, stores, tally)?;
     }
+    compare_call(&latest, Call::Lookup, stores, tally)?;
     Ok(())
 }
 
@@ -347,6 +374,18 @@ fn broken_stores_are_caught() {
     let stores = [&Second as &dyn Store, &Eager];
     let caught = compare_seeds(&seeds, |_| stores, &mut Tally::default());
     println!("Eager: {}", caught.expect_err("a broken store passed"));
+}
+
+#[test]
+fn wrong_pairings_are_caught() {
+    let seeds: Vec<u64> = (0..500).collect();
+    for wrong in WRONG_PAIRINGS {
+        let stores = [&Second as &dyn Store, leak(wrong)];
+        let Err(text) = compare_seeds(&seeds, |_| stores, &mut Tally::default()) else {
+            panic!("{wrong:?} was not caught");
+        };
+        println!("{wrong:?}: {text}");
+    }
 }
 
 /// A store that reads the byte after the image, and one that reads the byte before it.

@@ -1,4 +1,5 @@
-//! The twelve examples of docs/FORMAT.md, and what it says of broken words (X2, X9), on every store at hand.
+//! The twelve examples of docs/FORMAT.md, and what it says of broken words (X2, X9) and of pairing codes (X10), on every
+//! store at hand.
 //!
 //! A broken store that these catch: one with an exclusive-or check (examples 1 to 4), see the last test.
 
@@ -170,8 +171,8 @@ fn example_7_no_store_and_nothing_held() {
         assert_eq!(listing(&image), b"refused 2\n");
         let image = formatted(store, 2);
         assert_eq!(store.read(&image, 0), NOT_HELD_ANSWER);
-        assert_eq!(store.blank_read(&image, 0), held_value(255));
-        assert_eq!(store.lookup(&image), Pairing { number: OK, paired: false, digits: [255; 4] });
+        assert_eq!(store.blank_read(&image, 0), held_value(0));
+        assert_eq!(store.lookup(&image), Pairing { number: OK, paired: false, digits: [0; 4] });
     });
 }
 
@@ -282,6 +283,26 @@ fn broken_words_counted() {
     put(&mut image, 1, DONE_OFFSET, done_word(1));
     assert_eq!(state(page_at(&image, 0)), State::Open { order: 0, kind: PLAIN });
     assert_eq!(listing(&image), b"pages 2 used 1 cleared 0 order 1 held 0 half 0 spoiled 0\n");
+}
+
+/// X10: the digits before the code is whole may be those of a whole one.
+#[test]
+fn pairing_codes() {
+    let rows = [
+        (16, 0, false, [0, 0, 0, 0]),
+        (17, 255, false, [0, 255, 0, 0]),
+        (19, 0, false, [0, 255, 0, 0]),
+        (18, 7, true, [0, 255, 7, 0]),
+        (18, 0, true, [0, 255, 0, 0]),
+    ];
+    on_every_store(|store| {
+        let mut image = formatted(store, 2);
+        assert_eq!(store.lookup(&image), Pairing { number: OK, paired: false, digits: [0, 0, 0, 0] });
+        for (address, value, paired, digits) in rows {
+            write_all(store, &mut image, address, value);
+            assert_eq!(store.lookup(&image), Pairing { number: OK, paired, digits }, "{value} at {address}");
+        }
+    });
 }
 
 /// A store in which 64 was written to address 5, and then 65 as far as the first step, where power failed.

@@ -1,6 +1,7 @@
 //! The image makers make what the comparison is meant to meet.
 //!
-//! A broken maker that this catches: one whose stores all have few addresses, so that DAMAGED by 193 is never met.
+//! Broken makers that this catches: one whose stores all have few addresses, so that DAMAGED by 193 is never met, and one
+//! that draws every value alike, so that hardly a setting is 0 or 255.
 
 use std::collections::BTreeMap;
 
@@ -72,6 +73,29 @@ fn look_at_slots(image: &[u8], counts: &mut Counts) {
     note(counts, "more than 255 spoiled slots", spoiled > 255);
 }
 
+/// What the pairing lookup depends on, in a store that is accepted.
+fn look_at_code(image: &[u8], counts: &mut Counts) {
+    const WITHOUT: [&str; 4] = [
+        "code without its first digit",
+        "code without its second digit",
+        "code without its third digit",
+        "code without its fourth digit",
+    ];
+    let code = [16, 17, 18, 19].map(|address| value(image, address));
+    let [has_0, has_255] = [0, 255].map(|digit| code.contains(&Some(digit)));
+    let digits = code.iter().flatten().count();
+    note(counts, "no digit of a code", digits == 0);
+    for (digit, name) in code.iter().zip(WITHOUT) {
+        note(counts, name, digits == 3 && digit.is_none());
+    }
+    note(counts, "code of three digits, none of them 0 or 255", digits == 3 && !has_0 && !has_255);
+    note(counts, "whole code, no digit 0 or 255", digits == 4 && !has_0 && !has_255);
+    note(counts, "whole code with a digit 0 and none 255", digits == 4 && has_0 && !has_255);
+    note(counts, "whole code with a digit 255 and none 0", digits == 4 && has_255 && !has_0);
+    note(counts, "whole code of four digits 0", code == [Some(0); 4]);
+    note(counts, "whole code of four digits 255", code == [Some(255); 4]);
+}
+
 fn look_at_store(image: &[u8], counts: &mut Counts) {
     let used = used_pages(image);
     let open = states(image).iter().filter(|state| matches!(state, State::Open { .. })).count();
@@ -84,6 +108,7 @@ fn look_at_store(image: &[u8], counts: &mut Counts) {
         return;
     }
     look_at_slots(image, counts);
+    look_at_code(image, counts);
     let cleared = cleared_pages(image);
     let full = free_slot(page_at(image, active_page(image).page)).is_none();
     let clean = unclean_pages(image).is_empty();
@@ -137,6 +162,18 @@ fn the_makers_make_every_case() {
         .all(|length| wrong_lengths.contains_key(length)));
     let rare: Vec<_> = counts.iter().filter(|(_, &count)| count < 5).collect();
     assert!(rare.is_empty(), "hardly met: {rare:?}");
+}
+
+/// Each end is the value of more than one setting in twenty. Of values drawn alike it is that of one in 256.
+#[test]
+fn the_ends_are_common_values() {
+    let accepted = (0..1_000).map(image).filter(|image| test_store(image).is_ok());
+    let values: Vec<u8> = accepted.flat_map(|image| held(&image).into_values()).collect();
+    for end in [0, 255] {
+        let count = values.iter().filter(|&&value| value == end).count();
+        println!("{count} of {} settings are {end}", values.len());
+        assert!(count * 20 > values.len());
+    }
 }
 
 #[test]

@@ -1,18 +1,18 @@
 //! The power-cut run: histories of writes in which power fails at every step of every examined write, in several ways,
-//! and then in the recoveries after it. Demand 3 is tested through the store's own reads.
+//! and then in the recoveries after it. Demand 3 is tested through the store's own reads, blank reads and lookups.
 //!
 //! The steps come from a plan, the second implementation's; that the store under test does the same steps is tested by
 //! its image after each allowance. A broken store that this catches: a move that erases the old pages before the done
-//! word (clause 1). `broken_stores_are_caught` has one for each clause; there the plan is the broken store's own, so
-//! that only the clauses can catch it. ISTROVELL_SEED runs one history alone.
+//! word (clause 1). `broken_stores_are_caught` has one for each clause of demand 3; there the plan is the broken store's
+//! own, so that only the clauses can catch it. ISTROVELL_SEED runs one history alone.
 
 use std::collections::BTreeMap;
 use std::time::Instant;
 
-use outside::broken::{Broken, Eager, WRONG_WEARS};
+use outside::broken::{Broken, Eager, WrongPairing, WRONG_PAIRINGS, WRONG_WEARS};
 use outside::failing::*;
 use outside::guard::{note_seed, Guarded, Place};
-use outside::images::{fill_active, some_addresses};
+use outside::images::{fill_active, some_addresses, some_value};
 use outside::page::*;
 use outside::rng::{asked_for, Rng};
 use outside::rules::*;
@@ -36,6 +36,8 @@ enum Clause {
     Later,
     /// What a finished write puts at an address, a read finds; a finished recovery leaves nothing to recover.
     Finished,
+    /// Blank reads and the pairing lookup say what the reads say.
+    Blank,
     /// The image and the answer after each allowance are those of the plan.
     Steps,
 }
@@ -98,6 +100,8 @@ struct Report {
     left_old: u64,
     left_new: u64,
     reads: u64,
+    /// Lookups that found a pairing code, as they had to.
+    codes: u64,
     lost: BTreeMap<Clause, u64>,
     first_lost: Option<String>,
 }
@@ -122,7 +126,8 @@ impl Report {
             println!("    {step:7} {failing:?}: {count}");
         }
         println!("  recoveries: {:?}", self.recoveries);
-        println!("  left the old value {}, left the new value {}, reads {}", self.left_old, self.left_new, self.reads);
+        println!("  left the old value {}, left the new value {}", self.left_old, self.left_new);
+        println!("  reads {}, lookups that found a pairing code {}", self.reads, self.codes);
         println!("  lost: {}", self.lost.values().sum::<u64>());
     }
 }
@@ -206,7 +211,7 @@ impl Run<'_> {
         let number = self.store.format(image);
         demand(number == OK && image == planned, Clause::Steps, || format!("format answers {number}"))?;
         for index in 0..self.history.held {
-            let value = self.rng.byte();
+            let value = some_value(&mut self.rng);
             self.write_quietly(image, self.pool[index], value);
         }
         Ok(())
@@ -240,9 +245,27 @@ impl Run<'_> {
         self.check_failure(image, written).map(|_| ())
     }
 
+    /// Three digits of a pairing code are held, and power fails at every step of the write of the last.
+    fn complete_a_code(&mut self, last: LastDigit) -> Outcome<()> {
+        let mut image = vec![0x5A; last.pages * PAGE_BYTES];
+        self.begin(&mut image)?;
+        let address = self.pool.remove(last.place);
+        for other in self.pool.clone() {
+            self.write_quietly(&mut image, other, last.digit);
+        }
+        if last.full {
+            fill_active(&mut image, SLOTS, &self.pool, &mut self.rng);
+            self.model = held(&image);
+        }
+        let steps = self.plan.write_steps(&image, address, last.digit).expect("the plan accepts the last digit");
+        assert_eq!(steps.len(), last.steps, "{last:?}");
+        self.examine_write(&image, address, last.digit, &steps);
+        Ok(())
+    }
+
     fn some_write(&mut self) -> (u16, u8) {
         let address = self.rng.pick(&self.pool);
-        let value = self.rng.byte();
+        let value = some_value(&mut self.rng);
         // Now and then the value already held, which takes no step.
         let held = self.model.get(&address).copied();
         (address, if self.rng.one_in(20) { held.unwrap_or(value) } else { value })
@@ -414,7 +437,26 @@ impl Run<'_> {
         self.report.reads += 1;
         let clause = if right(written.old) { Clause::Written } else { Clause::Finished };
         demand(right(answer), clause, || format!("the written address answers {answer:?}"))?;
+        self.check_blank(image, written.address, answer)?;
         Ok(answer)
+    }
+
+    /// The lookup takes the written address as it reads now, and the others as before. So a code that was whole stays whole,
+    /// and one that the write completes is whole exactly if the new value is there.
+    fn check_blank(&mut self, image: &[u8], written: u16, read: Reading) -> Outcome<()> {
+        let blank = self.store.blank_read(image, written);
+        demand(blank == Reading { number: OK, value: read.value }, Clause::Blank, || {
+            format!("the written address answers {read:?}, and blank {blank:?}")
+        })?;
+        let reads = |address| if address == written { read } else { held_or_not(self.model.get(&address)) };
+        let code = [16, 17, 18, 19].map(reads);
+        let paired = code.iter().all(|read| read.number == OK);
+        let found = self.store.lookup(image);
+        demand(found == Pairing { number: OK, paired, digits: code.map(|read| read.value) }, Clause::Blank, || {
+            format!("the code reads {code:?}, and the lookup finds {found:?}")
+        })?;
+        self.report.codes += u64::from(paired);
+        Ok(())
     }
 
     fn recovery_steps(&self, image: &[u8]) -> Outcome<Vec<Step>> {
@@ -513,6 +555,40 @@ const HISTORIES: [History; 11] = [
     History { seed: 11, pages: 32, held: 192, ways: 3, watched: 3, ..MOVE },
 ];
 
+/// A write that completes a pairing code.
+#[derive(Clone, Copy, Debug)]
+struct LastDigit {
+    /// Which of the four digits it is, counted from 0.
+    place: usize,
+    digit: u8,
+    pages: usize,
+    /// Whether the active page is full.
+    full: bool,
+    steps: usize,
+}
+
+/// Each place and each end, into the free slot, into a new page, and by a move.
+fn last_digits() -> Vec<LastDigit> {
+    let mut all = Vec::new();
+    for (pages, full, steps) in [(2, false, 2), (3, true, 4), (2, true, 2 * 4 + 4 + 3)] {
+        for (place, digit) in (0..4).flat_map(|place| [0, 7, 255].map(|digit| (place, digit))) {
+            all.push(LastDigit { place, digit, pages, full, steps });
+        }
+    }
+    all
+}
+
+fn complete_a_code(last: LastDigit, store: &dyn Store) -> Report {
+    let mut report = Report::default();
+    let history = History { pages: last.pages, held: 0, ..PLAIN_RUN };
+    let (rng, pool) = (Rng::new(history.seed), (16..20).collect());
+    let mut run = Run { store, plan: &Second, history, rng, pool, model: BTreeMap::new(), report: &mut report };
+    if let Err(lost) = run.complete_a_code(last) {
+        report.lose(lost);
+    }
+    report
+}
+
 #[test]
 fn power_cuts_lose_nothing() {
     let mut report = Report::default();
@@ -533,6 +609,17 @@ fn power_cuts_lose_nothing() {
         assert!(report.failed_writes() >= 10_000);
         assert!([2, 3, 32].iter().all(|pages| report.moves.contains_key(pages)));
         assert!([3, 8, 32].iter().all(|pages| report.new_pages.contains_key(pages)));
+        assert!(report.codes > 0);
+    }
+}
+
+/// Both are left by failures in each such write.
+#[test]
+fn a_code_is_completed_or_not() {
+    for last in last_digits() {
+        let report = complete_a_code(last, &SUBJECT);
+        assert_eq!(report.first_lost, None, "{last:?}");
+        assert!(report.left_old > 0 && report.left_new > 0 && report.codes > 0, "{last:?}");
     }
 }
 
@@ -574,5 +661,15 @@ fn wrong_wears_are_caught() {
         let mut report = Report::default();
         WORN.into_iter().for_each(|history| run(history, &Stepwise(broken), &Second, &mut report));
         assert!(report.lost.contains_key(&Clause::Steps), "{broken:?} was not caught");
+    }
+}
+
+/// With the right steps and other answers: demand 3 is about the answers too.
+#[test]
+fn wrong_pairings_are_caught() {
+    for wrong in WRONG_PAIRINGS {
+        let clause = if wrong == WrongPairing::BlankIsHeld { Clause::Steps } else { Clause::Blank };
+        let caught = last_digits().into_iter().find(|&last| complete_a_code(last, &wrong).lost.contains_key(&clause));
+        assert!(caught.is_some(), "{wrong:?} was not caught by {clause:?}");
     }
 }

@@ -1,11 +1,11 @@
-//! Single rules of document 01 beyond its examples, and of wishes 1 and 2 of document 02, on every store at hand.
+//! Single rules of document 01 beyond its examples, and of wishes 1, 2 and 6 of document 02, on every store at hand.
 //!
 //! Broken stores that these catch: one that takes a receiving page for current, one whose check counts the low half of each
-//! byte twice, and those of which only the wear is wrong, see the last test.
+//! byte twice, those of which only the wear is wrong, and those that are wrong in wish 6 alone, see the last test.
 
 use std::panic::{catch_unwind, AssertUnwindSafe};
 
-use outside::broken::{Broken, WRONG_WEARS};
+use outside::broken::{Broken, WRONG_PAIRINGS, WRONG_WEARS};
 use outside::page::*;
 use outside::rules::*;
 use outside::word::*;
@@ -191,16 +191,74 @@ fn tests_go_in_order() {
     });
 }
 
+/// A store that holds these digits of a pairing code, and nothing where there is none.
+fn with_code(code: [Option<u8>; 4]) -> Vec<u8> {
+    let digits = (16..).zip(code).filter_map(|(address, digit)| Some(record(address, digit?)));
+    [plain(0, &digits.collect::<Vec<Word>>()), cleared(1)].concat()
+}
+
+/// Wish 6: a code is whole if its four addresses are held, whatever their values. Each place is not held, holds 0, holds
+/// 255 and holds a digit of its own, beside each of these in the other places.
+fn codes(store: &dyn Store) {
+    for case in 0..256 {
+        let code = [0, 1, 2, 3].map(|place| [None, Some(0), Some(255), Some(6 + place)][case >> (2 * place) & 3]);
+        let digits = code.map(|digit| digit.unwrap_or(0));
+        let paired = code.iter().all(|digit| digit.is_some());
+        assert_eq!(store.lookup(&with_code(code)), Pairing { number: OK, paired, digits }, "{code:?}");
+    }
+}
+
 #[test]
 fn pairing_is_found_only_whole() {
+    on_every_store(codes);
+}
+
+/// Wish 6: blank reads as 0, and a read tells an address that holds 0 from one that isn't held. So does a write, which
+/// changes the one and not the other.
+fn blanks(store: &dyn Store) {
+    let mut image = [plain(0, &[record(5, 0), record(6, 255), record(7, 65)]), cleared(1)].concat();
+    for (address, number, value) in [(5, OK, 0), (6, OK, 255), (7, OK, 65), (8, NOT_HELD, 0), (65_534, NOT_HELD, 0)] {
+        assert_eq!(store.read(&image, address), Reading { number, value }, "read of {address}");
+        assert_eq!(store.blank_read(&image, address), Reading { number: OK, value }, "blank read of {address}");
+    }
+    for (address, steps) in [(5, 0), (8, 2), (8, 0)] {
+        assert_eq!(store.write(&mut image, address, 0, u16::MAX), Stepped { number: OK, finished: true, steps });
+        assert_eq!(store.read(&image, address), Reading { number: OK, value: 0 });
+        assert_eq!(store.blank_read(&image, address), Reading { number: OK, value: 0 });
+    }
+}
+
+#[test]
+fn blank_reads_as_0() {
+    on_every_store(blanks);
+}
+
+/// Each image has a whole code in a page, so that a digit or a value that is found in spite of the refusal shows.
+#[test]
+fn a_refusal_answers_nothing_else() {
+    let code: Vec<Word> = (16..20).map(|address| record(address, 9)).collect();
+    let too_many: Vec<Word> = (0..193).map(|address| record(address, 9)).collect();
+    let too_long = [plain(0, &code), cleared(1), vec![255]].concat();
+    let receiving = page_of(wear_word(1), order_word(0, RECEIVING), BLANK, &code);
     on_every_store(|store| {
-        let digits: Vec<Word> = (16..20).map(|address| record(address, address as u8)).collect();
-        let whole = [plain(0, &digits), cleared(1)].concat();
-        assert_eq!(store.lookup(&whole), Pairing { number: OK, paired: true, digits: [16, 17, 18, 19] });
-        let missing = [plain(0, &digits[..3]), cleared(1)].concat();
-        assert_eq!(store.lookup(&missing), Pairing { number: OK, paired: false, digits: [16, 17, 18, 255] });
-        let blank_held = [plain(0, &[digits, vec![record(17, 255)]].concat()), cleared(1)].concat();
-        assert_eq!(store.lookup(&blank_held), Pairing { number: OK, paired: false, digits: [16, 255, 18, 19] });
+        for (number, image) in [
+            (SIZE, too_long.clone()),
+            (SIZE, plain(0, &code)),
+            (NO_STORE, [receiving.clone(), cleared(1)].concat()),
+            (DAMAGED, [plain(0, &code), plain(0, &code), cleared(1)].concat()),
+            (DAMAGED, [plain(0, &code), plain(1, &[])].concat()),
+            (DAMAGED, [plain(0, &too_many), cleared(1)].concat()),
+        ] {
+            for address in [16, 300, NO_ADDRESS] {
+                assert_eq!(store.read(&image, address), Reading { number, value: 0 });
+                assert_eq!(store.blank_read(&image, address), Reading { number, value: 0 });
+            }
+            assert_eq!(store.lookup(&image), Pairing { number, paired: false, digits: [0; 4] });
+        }
+        let good = [plain(0, &code), cleared(1)].concat();
+        assert_eq!(store.read(&good, NO_ADDRESS), Reading { number: ADDRESS, value: 0 });
+        assert_eq!(store.blank_read(&good, NO_ADDRESS), Reading { number: ADDRESS, value: 0 });
+        assert_eq!(store.lookup(&good), Pairing { number: OK, paired: true, digits: [9; 4] });
     });
 }
 
@@ -214,5 +272,9 @@ fn broken_stores_are_caught() {
     assert!(catch_unwind(AssertUnwindSafe(|| checks_by_hand(&Stepwise(Broken::LowHalfTwice)))).is_err());
     for broken in WRONG_WEARS {
         assert!(catch_unwind(AssertUnwindSafe(|| lost_wears(&Stepwise(broken)))).is_err(), "{broken:?}");
+    }
+    for wrong in WRONG_PAIRINGS {
+        let caught = [codes, blanks].map(|rule| catch_unwind(AssertUnwindSafe(|| rule(&wrong))).is_err());
+        assert!(caught.contains(&true), "{wrong:?}");
     }
 }

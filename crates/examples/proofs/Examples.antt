@@ -19,11 +19,11 @@ use Rattle.rules.specs.Steps.{renewals, renew-picked, unclean, recovery-steps, 
 use Rattle.rules.specs.Steps.{has-free-slot, is-value, write-steps}
 use Rattle.rules.specs.Call.{this-form, first-of, store-rows, blank-read-rows, read-rows, write-rows, cut, page-count, pages, wrong-size, no-store}
 use Rattle.rules.specs.Call.{among, repeats, all-used, damaged, is-unclean, wrong-address, is-held, no-room, order-end, store-number}
-use Rattle.rules.specs.Call.{write-number, blank-read-number, read-number, accepted, format, stepped, recover, write, read, not-held-value}
-use Rattle.rules.specs.Call.{blank-value, blank-read, digits, lookup}
+use Rattle.rules.specs.Call.{write-number, blank-read-number, read-number, accepted, format, stepped, recover, write, read}
+use Rattle.rules.specs.Call.{blank-value, blank-read, code, all-held, pairing, lookup}
 use Rattle.rules.specs.Listing.{is-half, is-spoiled, used-conditions, half, spoiled}
 use Rattle.rules.proofs.Laid.{laid, laid-all, within, run-laid}
-use Rattle.examples.specs.Examples.{same, holds, bytes, told, said, yes-no, did, done-by, broken, empty-flash, numbers, rows, table}
+use Rattle.examples.specs.Examples.{same, holds, bytes, told, said, yes-no, did, showed, done-by, broken, empty-flash, numbers, written, rows, table}
 use Rattle.examples.specs.Examples.{the-examples-hold}
 
 inside : within 1024 (length (empty-flash 2048)) (format-steps 1 2) ≡ true
@@ -36,8 +36,8 @@ unfolding format wrong-size page-count
 formatted = run-laid 1024 (format-steps 1 2) (empty-flash 2048) inside
 
 computed : T (holds (rows (laid-all 1024 (format-steps 1 2) (empty-flash 2048))))
-unfolding same holds bytes told said yes-no did done-by broken laid laid-all numbers rows offset aim after run zeros check sound blank second-blank
-    condition is-half is-spoiled used-conditions half spoiled low16 low24 third checked wear-word number-word opening-word done-word
+unfolding same holds bytes told said yes-no did showed done-by broken laid laid-all numbers written rows offset aim after run zeros check sound blank
+    second-blank condition is-half is-spoiled used-conditions half spoiled low16 low24 third checked wear-word number-word opening-word done-word
     record-word slot-condition word-steps words wear-part opening-part done-part slots is-wear wear-in is-opening order-in is-done all-blank
     state-after-wear state-by state page states order₂ base used is-cleared is-open order add-order used-orders greatest active-order is-active
     index-of active-index add-page used-pages insert oldest-first add-record records each journal or-else last-of value put put-all settings
@@ -45,7 +45,7 @@ unfolding same holds bytes told said yes-no did done-by broken laid laid-all num
     renew-picked unclean recovery-steps append-steps taken open-steps but copy-steps move-steps has-free-slot is-value write-steps
     first-of store-rows blank-read-rows read-rows write-rows way way-steps new-page next-order fill-steps other cut page-count pages wrong-size
     no-store among repeats all-used damaged is-unclean wrong-address is-held no-room order-end store-number write-number blank-read-number
-    read-number accepted format stepped recover write or-value read not-held-value blank-value blank-read digits lookup
+    read-number accepted format stepped recover write or-value read blank-value blank-read code all-held pairing lookup
 computed = tt
 
 pub examples : the-examples-hold

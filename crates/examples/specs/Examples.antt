@@ -3,15 +3,16 @@ use Prim.Native.Nat.{ℕ}
 use mathlib.Core.Bool.{Bool, true, false, _&&_}
 use mathlib.Core.List.{List, [], _∷_}
 use mathlib.Core.Option.{Option, none, some}
-use lib.ListN.{replicate}
+use lib.ListN.{replicate, take}
 use lib.Dec.{T, eqb}
 use Rattle.rules.specs.Flash.{Step, program, erase}
 use Rattle.rules.specs.Word.{Word, word, Condition, Sound, Blank, HalfWritten, Spoiled, condition, wear-word, opening-word, done-word, record-word}
 use Rattle.rules.specs.Word.{slot-condition}
 use Rattle.rules.specs.Page.{State, cleared, open₁, open₂, receiving, bad, Page}
+use Rattle.rules.specs.Store.{Setting, setting}
 use Rattle.rules.specs.Steps.{recovery-steps}
 use Rattle.rules.specs.Listing.{half, spoiled}
-use Rattle.rules.specs.Call.{this-form, Stepped, Reading, format, recover, write, read, blank-read, lookup}
+use Rattle.rules.specs.Call.{this-form, Stepped, Reading, Pairing, format, recover, write, read, blank-read, lookup}
 
 -- a row: what the rules give, and what section X prints
 pub data Row : Type 0 where
@@ -59,6 +60,9 @@ yes-no false = 0
 unfoldable pub did : Stepped → List ℕ
 did r = r .number ∷ r .steps ∷ yes-no (r .finished) ∷ []
 
+unfoldable pub showed : Pairing → List ℕ
+showed r = r .number ∷ yes-no (r .paired) ∷ r .digits
+
 -- steps: an erase by its page, a half-word that is programmed by its two bytes
 unfoldable pub done-by : List Step → List ℕ
 done-by [] = []
@@ -86,6 +90,14 @@ unfoldable pub numbers : List ℕ → List ℕ
 numbers i =
     format this-form i .number ∷ recover this-form 65535 i .number ∷ write this-form 0 0 65535 i .number
     ∷ read this-form 0 i .number ∷ blank-read this-form 0 i .number ∷ lookup this-form i .number ∷ []
+
+-- finished writes, one after the other
+unfoldable pub written : List Setting → List ℕ → List ℕ
+written [] i = i
+written (setting a v ∷ rest) i = written rest (write this-form a v 65535 i .image)
+
+abbrev pub digits : List Setting
+digits = setting 16 0 ∷ setting 17 255 ∷ setting 19 0 ∷ setting 18 7 ∷ setting 18 0 ∷ []
 
 -- the rows; two-pages is the image of two formatted pages
 unfoldable pub rows : (two-pages : List ℕ) → List Row
@@ -115,10 +127,10 @@ rows two-pages =
     ∷ row (numbers (empty-flash 1024)) (1 ∷ 1 ∷ 1 ∷ 1 ∷ 1 ∷ 1 ∷ [])
     ∷ row (numbers (empty-flash 2049)) (1 ∷ 1 ∷ 1 ∷ 1 ∷ 1 ∷ 1 ∷ [])
     ∷ row (numbers (empty-flash 33792)) (1 ∷ 1 ∷ 1 ∷ 1 ∷ 1 ∷ 1 ∷ [])
-    -- 7. 2,048 bytes of 255: NO STORE, but to format. Formatted two pages, read this-form 0: NOT HELD; blank read this-form 255.
+    -- 7. 2,048 bytes of 255: NO STORE, but to format. Formatted two pages, read 0: NOT HELD; blank read 0.
     ∷ row (numbers (empty-flash 2048)) (0 ∷ 2 ∷ 2 ∷ 2 ∷ 2 ∷ 2 ∷ [])
     ∷ row (said (read this-form 0 two-pages)) (8 ∷ 0 ∷ [])
-    ∷ row (said (blank-read this-form 0 two-pages)) (0 ∷ 255 ∷ [])
+    ∷ row (said (blank-read this-form 0 two-pages)) (0 ∷ 0 ∷ [])
     -- 8. Write (5, 65), allowance 1: 1 step, unfinished, 5 not held. Allowance 2 instead: finished, 65.
     ∷ row (did (write this-form 5 65 1 two-pages)) (0 ∷ 1 ∷ 0 ∷ [])
     ∷ row (said (read this-form 5 (write this-form 5 65 1 two-pages .image))) (8 ∷ 0 ∷ [])
@@ -133,6 +145,13 @@ rows two-pages =
     -- X9. A used page with 05 00 FF FF, 05 00 43 14 and FF FF FF 00: half 1, spoiled 2. If it is open and not used: half 0, spoiled 0.
     ∷ row (broken (page-broken (open₁ 0) ∷ page-with (cleared 1) (some 1) ∷ [])) (1 ∷ 2 ∷ [])
     ∷ row (broken (page-broken (open₁ 0) ∷ page-with (open₂ 1) (some 1) ∷ [])) (0 ∷ 0 ∷ [])
+    -- X10. The lookup after none of the writes, after the first, and so on: not paired until 18 is held too, with 7 and then with 0.
+    ∷ row (showed (lookup this-form (written (take 0 digits) two-pages))) (0 ∷ 0 ∷ 0 ∷ 0 ∷ 0 ∷ 0 ∷ [])
+    ∷ row (showed (lookup this-form (written (take 1 digits) two-pages))) (0 ∷ 0 ∷ 0 ∷ 0 ∷ 0 ∷ 0 ∷ [])
+    ∷ row (showed (lookup this-form (written (take 2 digits) two-pages))) (0 ∷ 0 ∷ 0 ∷ 255 ∷ 0 ∷ 0 ∷ [])
+    ∷ row (showed (lookup this-form (written (take 3 digits) two-pages))) (0 ∷ 0 ∷ 0 ∷ 255 ∷ 0 ∷ 0 ∷ [])
+    ∷ row (showed (lookup this-form (written (take 4 digits) two-pages))) (0 ∷ 1 ∷ 0 ∷ 255 ∷ 7 ∷ 0 ∷ [])
+    ∷ row (showed (lookup this-form (written (take 5 digits) two-pages))) (0 ∷ 1 ∷ 0 ∷ 255 ∷ 0 ∷ 0 ∷ [])
     ∷ []
 
 unfoldable pub table : List Row

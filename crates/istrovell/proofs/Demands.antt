@@ -12,6 +12,7 @@ use Rattle.rules.specs.Page.{size}
 use Rattle.rules.specs.Call.{this-form, page-count, wrong-size, store-number, write-number, read-number, blank-read-number, OK}
 use Rattle.rules.specs.Store.{value, or-value}
 use Rattle.rules.specs.Call.{SIZE, Stepped, Reading, Pairing, Formatted, accepted, stepped, recover, write, pages, read, blank-value, blank-read}
+use Rattle.rules.specs.Call.{code, pairing, lookup}
 use Rattle.rules.proofs.Truth.{by-cases}
 use Rattle.rules.proofs.Answers.{not-accepted, format-refused, format-done, stepped-refused, stepped-done, lookup-refused, lookup-done}
 use Rattle.promise.specs.Calls.{Question, value-at, blank-value-at, pairing-code, Answer, answer, Obeys}
@@ -25,7 +26,7 @@ use Rattle.reading.specs.Answers.{as-reading, as-pairing}
 use Rattle.writing.specs.declared.Stepped.{Stepped as Done}
 use Rattle.writing.specs.Answers.{as-stepped}
 use Rattle.istrovell.specs.Demands.{Formats, LooksUp, Unchanged, replies, exported, every-call-answers-by-number}
-use Rattle.istrovell.specs.Demands.{only-one-outcome, every-step-follows-the-rules, a-store-keeps-its-word}
+use Rattle.istrovell.specs.Demands.{only-one-outcome, every-step-follows-the-rules, a-store-keeps-its-word, every-question-is-answered}
 
 -- ---- recovery and write: an answer with steps
 
@@ -62,6 +63,7 @@ module _ (i : List ℕ) where
 
   look-number : (r : Pair) → LooksUp i r → (r .number ≡ store-number this-form i) × ((r .number ≡ OK → ⊥)
       → as-pairing r ≡ record { number = r .number; paired = false; digits = 0 ∷ 0 ∷ 0 ∷ 0 ∷ [] })
+  unfolding pairing
   look-number r h =
       let e : r .number ≡ store-number this-form i =
       by-cases (eqb (store-number this-form i) 0)
@@ -85,7 +87,7 @@ answers-by-number i =
             (write-number this-form a v i) n (write-of this-form a v i) i r j h,
       );
       reads = λ a r h. read-so (read-number this-form a i) (or-value (value a (pages this-form i)) 0) r h;
-      blank-reads = λ a r h. read-so (blank-read-number this-form a i) (blank-value this-form a i) r h;
+      blank-reads = λ a r h. read-so (blank-read-number this-form a i) (blank-value (value a (pages this-form i))) r h;
       looks = look-number i;
     }
 
@@ -104,11 +106,9 @@ same-reading r s h = ap to h
     to : Reading → Read
     to x = record { number = x .number; value = x .value }
 
-same-pairing : (r s : Pair) → as-pairing r ≡ as-pairing s → r ≡ s
-same-pairing r s h = ap to h
-  where
-    to : Pairing → Pair
-    to x = record {
+abbrev pair-of : Pairing → Pair
+pair-of x =
+    record {
       number = x .number;
       paired = x .paired;
       digit0 = getD (x .digits) 0 0;
@@ -116,6 +116,9 @@ same-pairing r s h = ap to h
       digit2 = getD (x .digits) 2 0;
       digit3 = getD (x .digits) 3 0;
     }
+
+same-pairing : (r s : Pair) → as-pairing r ≡ as-pairing s → r ≡ s
+same-pairing r s h = ap pair-of h
 
 pub one-outcome : only-one-outcome
 one-outcome i =
@@ -147,6 +150,23 @@ exported-obey =
 
 pub keeps-its-word : a-store-keeps-its-word
 keeps-its-word = kept this-form (omega arith) exported exported-obey
+
+-- a lookup has four digits, as the struct of the code has
+four-digits : (i : List ℕ) → as-pairing (pair-of (lookup this-form i)) ≡ lookup this-form i
+unfolding pairing code
+four-digits i =
+    by-cases (eqb (store-number this-form i) 0)
+    (λ t. rw (lookup-done this-form i (eqb-true (store-number this-form i) 0 t)))
+    (λ t. rw (lookup-refused this-form i (eqb-false (store-number this-form i) 0 t)))
+
+pub answered : every-question-is-answered
+unfolding answer
+answered i = (λ q. answer this-form q i, each)
+  where
+    each : (q : Question) → replies q i (answer this-form q i)
+    each (value-at x) = (record { number = read this-form x i .number; value = read this-form x i .value }, refl, refl)
+    each (blank-value-at x) = (record { number = blank-read this-form x i .number; value = blank-read this-form x i .value }, refl, refl)
+    each pairing-code = (pair-of (lookup this-form i), four-digits i, sym (four-digits i))
 
 -- ---- demand 2
 

@@ -10,9 +10,9 @@ use Rattle.rules.specs.Steps.{format-steps}
 use Rattle.rules.specs.Page.{size}
 use Rattle.rules.specs.Call.{this-form, page-count, wrong-size, store-number, write-number, read-number, blank-read-number, OK, SIZE}
 use Rattle.rules.specs.Call.{format, recover, write, read, blank-read, lookup}
-use Rattle.promise.specs.Calls.{Question, value-at, blank-value-at, pairing-code, Answer, Calls}
+use Rattle.promise.specs.Calls.{Question, value-at, blank-value-at, pairing-code, Answer, EachAnswer, Calls}
 use Rattle.promise.specs.History.{recovery-of, write-of}
-use Rattle.promise.specs.Promise.{KeepsItsWord}
+use Rattle.promise.specs.Promise.{AnswersEach, KeepsItsWord}
 use Rattle.promise.specs.Corollaries.{longest as longest-write}
 use Rattle.reading.specs.declared.Reading.{Reading}
 use Rattle.reading.specs.declared.Pairing.{Pairing}
@@ -111,3 +111,7 @@ exported =
 -- else; a power failure in a write loses nothing; a recovery changes no answer, and mends. `KeepsItsWord` of promise has the clauses.
 abbrev pub a-store-keeps-its-word : Type 0
 a-store-keeps-its-word = KeepsItsWord this-form exported
+
+-- That is not about nothing: of every image each question has an answer.
+abbrev pub every-question-is-answered : Type 0
+every-question-is-answered = (i : List ℕ) → (before : EachAnswer) × AnswersEach this-form exported i before

@@ -1,9 +1,9 @@
 -- What an image with a good store answers, by its values alone. Assumes nothing.
 use Prim.Native.Nat.{ℕ, _≤_}
-use mathlib.Core.Path.{_≡_, refl}
+use mathlib.Core.Path.{_≡_, refl, ap, _∙_}
 use mathlib.Core.Bool.{Bool, true, false, cond, not}
-use mathlib.Core.List.{List, [], _∷_}
-use mathlib.Core.Option.{Option, some}
+use mathlib.Core.List.{List, [], _∷_, map}
+use mathlib.Core.Option.{Option, none, some}
 use native.Mathlib.Omega.{arith}
 use lib.Dec.{eqb}
 use borrow.Author.Tests.{ne-eqb, eqb-true}
@@ -11,13 +11,14 @@ use Rattle.rules.specs.Page.{Form}
 use Rattle.rules.specs.Store.{states, value, or-value}
 use Rattle.rules.specs.Steps.{is-value}
 use Rattle.rules.specs.Call.{pages, is-unclean, wrong-address, is-held, no-room, order-end, first-of, store-number, write-number, accepted}
-use Rattle.rules.specs.Call.{blank-value, not-held-value, digits, read, blank-read, lookup, OK, NO-STORE, DAMAGED, UNCLEAN, ADDRESS}
-use Rattle.rules.specs.Call.{NO-ROOM, ORDER-END, NOT-HELD}
-use Rattle.rules.proofs.Truth.{by-cases}
+use Rattle.rules.specs.Call.{blank-value, code, all-held, pairing, read, blank-read, lookup, OK, NO-STORE, DAMAGED, UNCLEAN, ADDRESS}
+use Rattle.rules.specs.Call.{NO-ROOM, ORDER-END, NOT-HELD, Pairing}
+use Rattle.rules.proofs.Truth.{and-left, and-right, and-both, by-cases}
+use Rattle.rules.proofs.Answers.{other-address, same-code, lookup-done}
 use Rattle.rules.proofs.Rows.{then, blank-read-goes-on, read-goes-on, write-goes-on}
 use Rattle.rules.proofs.Good.{changed}
 use Rattle.rules.proofs.Healthy.{Healthy, value-here, store-ok}
-use Rattle.promise.specs.Calls.{Image, Question, value-at, blank-value-at, pairing-code, Answer, Asks, shows, put-digit, with-value, answer}
+use Rattle.promise.specs.Calls.{Image, Question, value-at, blank-value-at, pairing-code, Answer, Asks, EachAnswer, found-value, with-value, answer}
 
 -- by the values, an address not held having none
 read-by : (address : ℕ) → Option ℕ → Answer (value-at address)
@@ -28,50 +29,65 @@ read-by x o =
 blank-read-by : (address : ℕ) → Option ℕ → Answer (blank-value-at address)
 blank-read-by x o =
     let number = cond (wrong-address x) ADDRESS OK in
-    record { number = number; value = cond (accepted number) (or-value o not-held-value) 0 }
+    record { number = number; value = cond (accepted number) (blank-value o) 0 }
 
-code-by : (ℕ → Option ℕ) → List ℕ
-code-by t =
-    or-value (t 16) not-held-value ∷ or-value (t 17) not-held-value ∷ or-value (t 18) not-held-value ∷ or-value (t 19) not-held-value ∷ []
+pub answer-by : (ℕ → Option ℕ) → EachAnswer
+answer-by t (value-at x) = read-by x (t x)
+answer-by t (blank-value-at x) = blank-read-by x (t x)
+answer-by t pairing-code = pairing (code t)
 
-pub answer-by : (q : Question) → (ℕ → Option ℕ) → Answer q
-answer-by (value-at x) t = read-by x (t x)
-answer-by (blank-value-at x) t = blank-read-by x (t x)
-answer-by pairing-code t = shows (code-by t)
-
-pub answers-are : {fm : Form} {May : Type 0} {t : ℕ → Option ℕ} {i : Image} → Healthy fm May t i → (q : Question) → answer fm q i ≡ answer-by q t
-unfolding answer answer-by read-by blank-read-by code-by read blank-read lookup blank-value digits then accepted
+pub answers-are : {fm : Form} {May : Type 0} {t : ℕ → Option ℕ} {i : Image} → Healthy fm May t i → (q : Question) → answer fm q i ≡ answer-by t q
+unfolding answer answer-by read-by blank-read-by read blank-read then accepted
 answers-are {fm = fm} {i = i} h (value-at x) = rw (read-goes-on fm i x, blank-read-goes-on fm i x, value-here h x, store-ok h)
 answers-are {fm = fm} {i = i} h (blank-value-at x) = rw (blank-read-goes-on fm i x, value-here h x, store-ok h)
-answers-are h pairing-code = rw (value-here h 16, value-here h 17, value-here h 18, value-here h 19, store-ok h)
+answers-are {fm = fm} {t = t} {i = i} h pairing-code =
+    lookup-done fm i (store-ok h) ∙ ap pairing (same-code (λ x. value x (pages fm i)) t (λ x l m. value-here h x))
 
--- a digit with v in its place
-digit-changed : (v : ℕ) (here : Bool) (o : Option ℕ) → or-value (cond here (some v) o) not-held-value ≡ cond here v (or-value o not-held-value)
-unfolding or-value
-digit-changed v true o = refl
-digit-changed v false o = refl
+-- paired means that all four are held
+pub paired-if : {fm : Form} {May : Type 0} {t : ℕ → Option ℕ} {i : Image} → Healthy fm May t i → lookup fm i .paired ≡ all-held (code t)
+unfolding answer answer-by pairing
+paired-if h = ap (λ (r : Pairing). r .paired) (answers-are h pairing-code)
+
+-- what a read of a digit finds is what is held
+digit-found : (x : ℕ) → x ≤ 19 → (o : Option ℕ) → found-value (read-by x o) ≡ o
+unfolding found-value read-by then accepted is-held or-value
+digit-found x l none = rw (other-address x (omega arith))
+digit-found x l (some v) = rw (other-address x (omega arith))
+
+-- the answers with v at a, by those that were given
+module _ (a v : ℕ) where
+  pub with-given : (before given : EachAnswer) → ((q : Question) → before q ≡ given q) → (q : Question) → with-value a v before q ≡ with-value a v given q
+  unfolding with-value
+  with-given before given e (value-at x) = rw (e (value-at x))
+  with-given before given e (blank-value-at x) = rw (e (blank-value-at x))
+  with-given before given e pairing-code = ap pairing (same-code _ _ (λ x l m. rw (e (value-at x))))
 
 -- with v at a
 module _ (a v : ℕ) (t : ℕ → Option ℕ) where
-  pub answer-changed : wrong-address a ≡ false → (q : Question) → answer-by q (changed a v t) ≡ with-value a v q (answer-by q t)
-  unfolding answer-by read-by blank-read-by code-by with-value put-digit then accepted is-held or-value
+  pub answer-changed : wrong-address a ≡ false → (q : Question) → answer-by (changed a v t) q ≡ with-value a v (answer-by t) q
+  unfolding answer-by read-by blank-read-by with-value then accepted is-held or-value blank-value
   answer-changed w (value-at x) = by-cases (eqb x a) (λ e. rw (e, eqb-true x a e, w)) (λ e. rw e)
   answer-changed w (blank-value-at x) = by-cases (eqb x a) (λ e. rw (e, eqb-true x a e, w)) (λ e. rw e)
-  answer-changed w pairing-code =
-      rw (digit-changed v (eqb 16 a) (t 16), digit-changed v (eqb 17 a) (t 17), digit-changed v (eqb 18 a) (t 18), digit-changed v (eqb 19 a) (t 19))
+  answer-changed w pairing-code = ap pairing (same-code _ _ (λ x l m. rw (digit-found x m (t x))))
 
-  pub not-asked : (q : Question) → (Asks q a → ⊥) → with-value a v q (answer-by q t) ≡ answer-by q t
-  unfolding with-value put-digit answer-by code-by
+  pub not-asked : (q : Question) → (Asks q a → ⊥) → with-value a v (answer-by t) q ≡ answer-by t q
+  unfolding with-value answer-by
   not-asked (value-at x) no′ = rw (ne-eqb x a no′)
   not-asked (blank-value-at x) no′ = rw (ne-eqb x a no′)
-  not-asked pairing-code no′ =
-      let other : (x : ℕ) → 16 ≤ x → x ≤ 19 → eqb x a ≡ false = λ x l m. ne-eqb x a (λ e. no′ (omega arith)) in
-      rw (
-        other 16 (omega arith) (omega arith),
-        other 17 (omega arith) (omega arith),
-        other 18 (omega arith) (omega arith),
-        other 19 (omega arith) (omega arith),
-      )
+  not-asked pairing-code no′ = ap pairing (same-code _ t (λ x l m. rw (ne-eqb x a (λ e. no′ (omega arith))) (digit-found x m (t x))))
+
+-- all that were held are held with v at a
+pub still-held : (a v : ℕ) (t : ℕ → Option ℕ) → all-held (code t) ≡ true → all-held (code (changed a v t)) ≡ true
+unfolding code all-held is-held
+still-held a v t = of (16 ∷ 17 ∷ 18 ∷ 19 ∷ [])
+  where
+    one : (here : Bool) (o : Option ℕ) → is-held o ≡ true → is-held (cond here (some v) o) ≡ true
+    one true o h = refl
+    one false o h = h
+
+    of : (xs : List ℕ) → all-held (map t xs) ≡ true → all-held (map (changed a v t) xs) ≡ true
+    of [] h = h
+    of (x ∷ xs) h = and-both (one (eqb x a) (t x) (and-left (is-held (t x)) _ h)) (of xs (and-right (is-held (t x)) _ h))
 
 -- a write of a clean store is not refused for the store's sake
 pub not-refused : (fm : Form) (a v : ℕ) (i : Image) → store-number fm i ≡ OK → is-unclean (states (pages fm i)) ≡ false

@@ -1,6 +1,7 @@
 -- The corollaries, proved. Assumes nothing.
 use Prim.Native.Nat.{ℕ}
-use mathlib.Core.Path.{_≡_, refl, ap, _∙_, subst⁻¹}
+use mathlib.Core.Path.{_≡_, refl, sym, ap, _∙_, subst⁻¹}
+use mathlib.Core.Logic.{⊎-elim}
 use mathlib.Core.Bool.{true, false}
 use mathlib.Core.List.{List, [], _∷_}
 use mathlib.Core.Option.{Option}
@@ -29,10 +30,11 @@ use Rattle.rules.proofs.Ready.{format-allowed}
 use Rattle.rules.proofs.Answers.{format-done, stepped-done}
 use Rattle.promise.specs.Calls.{Image, pairing-code, finds, by-the-rules, Obeys}
 use Rattle.promise.specs.History.{write-of, FailsAfter, formatted, none as no-more, Interrupted}
-use Rattle.promise.specs.Corollaries.{Used, the-code-survives, orders-differ, a-page-is-spare, never-over-full, every-step-may-be-done}
-use Rattle.promise.specs.Corollaries.{new-flash, fresh-store, finds-nothing, not-about-nothing}
+use Rattle.promise.specs.Corollaries.{Used, the-code-survives, a-paired-handset-stays-paired, orders-differ, a-page-is-spare}
+use Rattle.promise.specs.Corollaries.{never-over-full, every-step-may-be-done, new-flash, fresh-store, finds-nothing, not-about-nothing}
 use Rattle.rules.proofs.Healthy.{Healthy, few-here, apart-here, spare-here, accepted-healthy, recovery-allowed, write-allowed}
-use Rattle.promise.proofs.Kept.{in-use-healthy, kept}
+use Rattle.promise.proofs.Answers.{paired-if, still-held}
+use Rattle.promise.proofs.Kept.{in-use-healthy, either, kept}
 
 obeyed : (fm : Form) → Obeys fm (by-the-rules fm)
 obeyed fm = record { formats = λ i f e. e; recovers = λ n i s e. e; writes = λ a v n i s e. e; answers = λ q i r e. e }
@@ -44,6 +46,13 @@ code-survives fm roomy i u a v n k x = kept fm roomy (by-the-rules fm) (obeyed f
 
 holds : (fm : Form) → Roomy fm → {i : Image} → Used fm i → (t : ℕ → Option ℕ) × Healthy fm (Unit {0}) t i
 holds fm roomy u = in-use-healthy fm roomy (by-the-rules fm) (obeyed fm) u
+
+pub stays-paired : a-paired-handset-stays-paired
+unfolding holds
+stays-paired fm roomy i u p a v n k x =
+    let h = holds fm roomy u in
+    let was = sym (paired-if (h .1)) ∙ p in
+    ⊎-elim (λ g. paired-if g ∙ was) (λ g. paired-if g ∙ still-held a v (h .0) was) (either fm roomy (by-the-rules fm) (obeyed fm) i u a v x)
 
 pub differing : orders-differ
 differing fm roomy i u = apart-here (holds fm roomy u .1)

@@ -20,11 +20,11 @@ use Rattle.rules.proofs.Plans.{BytesLeft, left-after}
 use Rattle.rules.proofs.Good.{changed}
 use Rattle.rules.proofs.Healthy.{Healthy, store-ok, accepted-healthy, format-healthy, recovery-left, recovery-run, recovery-cleans, write-left, write-later}
 use Rattle.rules.proofs.Healthy.{write-run}
-use Rattle.promise.specs.Calls.{Image, Question, value-at, Answer, Asks, with-value, Calls, Obeys}
+use Rattle.promise.specs.Calls.{Image, Question, value-at, Answer, Asks, EachAnswer, with-value, Calls, Obeys}
 use Rattle.promise.specs.History.{recovery-of, write-of, FailsAfter, RecoveryLeaves, WriteLeaves, InUse, formatted, recovered, written}
 use Rattle.promise.specs.History.{Recoveries, none as no-more, more, Interrupted}
-use Rattle.promise.specs.Promise.{Same, Changed, Found, NothingLost, Mended, the-promise}
-use Rattle.promise.proofs.Answers.{answer-by, answers-are, answer-changed, not-asked, not-refused}
+use Rattle.promise.specs.Promise.{Same, AnswersEach, Changed, Found, NothingLost, Mended, the-promise}
+use Rattle.promise.proofs.Answers.{answer-by, answers-are, with-given, answer-changed, not-asked, not-refused}
 
 -- ---- a call with steps
 
@@ -100,14 +100,14 @@ module _ (fm : Form) (roomy : Roomy fm) (C : Calls) (obeys : Obeys fm C) where
       → (q : Question) → Changed fm C a v q i k
   changes {t = t} {i = i} {k = k} a v w h g q before after x y =
       obeys .answers q k after y ∙ answers-are g q ∙ answer-changed a v t w q
-      ∙ ap (with-value a v q) (sym (answers-are h q) ∙ sym (obeys .answers q i before x))
+      ∙ sym (with-given a v before (answer-by t) (λ p. obeys .answers p i (before p) (x p) ∙ answers-are h p) q)
 
   -- what does not ask for the address answers as before
   others-same : {M N : Type 0} {t : ℕ → Option ℕ} {i k : Image} (a v : ℕ) → wrong-address a ≡ false → Healthy fm M t i → Healthy fm N (changed a v t) k
       → (q : Question) → (Asks q a → ⊥) → Same fm C q i k
-  others-same {t = t} {i = i} a v w h g q not-of before after x y =
-      let was : before ≡ answer-by q t = obeys .answers q i before x ∙ answers-are h q in
-      changes a v w h g q before after x y ∙ ap (with-value a v q) was ∙ not-asked a v t q not-of ∙ sym was
+  others-same {t = t} {i = i} {k = k} a v w h g q not-of before after x y =
+      let was : before ≡ answer-by t q = obeys .answers q i before x ∙ answers-are h q in
+      obeys .answers q k after y ∙ answers-are g q ∙ answer-changed a v t w q ∙ not-asked a v t q not-of ∙ sym was
 
   -- ---- what a finished write puts at an address, a read finds
 
@@ -141,7 +141,7 @@ module _ (fm : Form) (roomy : Roomy fm) (C : Calls) (obeys : Obeys fm C) where
       address-ok : wrong-address a ≡ false
       address-ok = write-fails fm i a v (write-ok (x .write)) .address
 
-      either : Well t k ⊎ Well (changed a v t) k
+      pub either : Well t k ⊎ Well (changed a v t) k
       either =
           ⊎-elim (λ g. inl (recoveries-keep g (x .then))) (λ g. inr (recoveries-keep g (x .then)))
           (write-left h a v (write-ok (x .write)) tt (write-bytes (x .write)))
@@ -154,13 +154,13 @@ module _ (fm : Form) (roomy : Roomy fm) (C : Calls) (obeys : Obeys fm C) where
       in-use-then w (more r rest) = in-use-then (recovered w r) rest
 
     new-stays : {n m : ℕ} {k l : Image} → Interrupted fm C a v i n k → Interrupted fm C a v i m l → n < m
-        → (q : Question) (old one later : Answer q) → C .Answers q i old → C .Answers q k one → C .Answers q l later
-        → one ≡ with-value a v q old → later ≡ with-value a v q old
+        → (q : Question) (old : EachAnswer) (one later : Answer q) → AnswersEach fm C i old → C .Answers q k one → C .Answers q l later
+        → one ≡ with-value a v old q → later ≡ with-value a v old q
     new-stays x y lt q old one later p r s e =
         ⊎-elim
         (λ g.
-        let was : old ≡ with-value a v q old = sym (same h (recoveries-keep g (x .then)) q old one p r) ∙ e in
-        ⊎-elim (λ f. f old later p s ∙ was) (λ f. f old later p s) (old-or-new y q))
+        let was : old q ≡ with-value a v old q = sym (same h (recoveries-keep g (x .then)) q (old q) one (p q) r) ∙ e in
+        ⊎-elim (λ f. f (old q) later (p q) s ∙ was) (λ f. f old later p s) (old-or-new y q))
         (λ g. changes a v (address-ok y) h (recoveries-keep g (y .then)) q old later p s)
         (write-later h a v (write-ok (x .write)) tt (write-bytes (x .write)) (write-bytes (y .write)) lt)
 

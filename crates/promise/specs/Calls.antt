@@ -1,12 +1,13 @@
 -- The calls as the promise sees them: which outcomes of each are possible. The rules are one such set of calls, the exported
 -- functions are another. Each is of one form of pages.
-use Prim.Native.Nat.{ℕ, suc, _≤_}
+use Prim.Native.Nat.{ℕ, _≤_}
 use mathlib.Core.Path.{_≡_}
-use mathlib.Core.Bool.{cond, not}
-use mathlib.Core.List.{List, [], _∷_}
+use mathlib.Core.Bool.{cond}
+use mathlib.Core.List.{List}
+use mathlib.Core.Option.{Option, none, some}
 use lib.Dec.{eqb}
 use Rattle.rules.specs.Page.{Form}
-use Rattle.rules.specs.Call.{OK, Formatted, Stepped, Reading, Pairing, among, format, recover, write, read, blank-read, lookup}
+use Rattle.rules.specs.Call.{OK, Formatted, Stepped, Reading, Pairing, accepted, format, recover, write, read, blank-read, code, pairing, lookup}
 
 abbrev pub Image : Type 0
 Image = List ℕ
@@ -27,23 +28,23 @@ Asks (value-at x) a = x ≡ a
 Asks (blank-value-at x) a = x ≡ a
 Asks pairing-code a = (16 ≤ a) × (a ≤ 19)
 
--- the answer of a read that finds v, and of a lookup that shows these digits
+-- the answer of a read that finds v; and what a read found, if it was not refused
 abbrev pub finds : ℕ → Reading
 finds v = record { number = OK; value = v }
 
-abbrev pub shows : List ℕ → Pairing
-shows digits = record { number = OK; paired = not (among 255 digits); digits = digits }
+unfoldable pub found-value : Reading → Option ℕ
+found-value r = cond (accepted (r .number)) (some (r .value)) none
 
--- the digits of the addresses from x on, with v for that of address a
-unfoldable pub put-digit : (a v x : ℕ) → List ℕ → List ℕ
-put-digit a v x [] = []
-put-digit a v x (d ∷ ds) = cond (eqb x a) v d ∷ put-digit a v (suc x) ds
+-- an answer to each question
+abbrev pub EachAnswer : Type 0
+EachAnswer = (q : Question) → Answer q
 
--- an answer with v in it as the value of a, and otherwise as it was
-unfoldable pub with-value : (a v : ℕ) (q : Question) → Answer q → Answer q
-with-value a v (value-at x) r = cond (eqb x a) (finds v) r
-with-value a v (blank-value-at x) r = cond (eqb x a) (finds v) r
-with-value a v pairing-code r = shows (put-digit a v 16 (r .digits))
+-- The answers with v in them as the value of a, and otherwise as before. Which addresses of the pairing code are held, an answer of
+-- the lookup does not tell; the reads do.
+unfoldable pub with-value : (a v : ℕ) → EachAnswer → EachAnswer
+with-value a v before (value-at x) = cond (eqb x a) (finds v) (before (value-at x))
+with-value a v before (blank-value-at x) = cond (eqb x a) (finds v) (before (blank-value-at x))
+with-value a v before pairing-code = pairing (code (λ x. cond (eqb x a) (some v) (found-value (before (value-at x)))))
 
 -- Which outcome of a call is possible, by the image at the call.
 pub record Calls : Type 1 where

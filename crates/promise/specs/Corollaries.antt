@@ -13,7 +13,7 @@ use Rattle.rules.specs.Store.{states, base, used, is-cleared, page-at, count, u
 use Rattle.rules.specs.Steps.{renew, renewed-wear, greatest-wear, format-steps, Way, stay, append-to, open-at, move-to, taken, way}
 use Rattle.rules.specs.Call.{this-form, Roomy, held-limit, page-count, pages, wrong-size, store-number, repeats, all-used, write-number, OK}
 use Rattle.rules.specs.Listing.{half, spoiled}
-use Rattle.rules.specs.Call.{NOT-HELD, Reading, read, format}
+use Rattle.rules.specs.Call.{NOT-HELD, Reading, read, lookup, format}
 use Rattle.promise.specs.Calls.{Image, pairing-code, finds, by-the-rules}
 use Rattle.promise.specs.History.{recovery-of, write-of, InUse, Interrupted}
 use Rattle.promise.specs.Promise.{Same, Changed}
@@ -29,6 +29,11 @@ Used fm = InUse fm (by-the-rules fm)
 abbrev pub the-code-survives : Type 0
 the-code-survives = (fm : Form) → Roomy fm → (i : Image) → Used fm i → (a v n : ℕ) (k : Image) → Interrupted fm (by-the-rules fm) a v i n k
     → Same fm (by-the-rules fm) pairing-code i k ⊎ Changed fm (by-the-rules fm) a v pairing-code i k
+
+-- "Can a paired handset come unpaired?" No: whatever it writes, and wherever power fails in that, it is paired still.
+abbrev pub a-paired-handset-stays-paired : Type 0
+a-paired-handset-stays-paired = (fm : Form) → Roomy fm → (i : Image) → Used fm i → lookup fm i .paired ≡ true
+    → (a v n : ℕ) (k : Image) → Interrupted fm (by-the-rules fm) a v i n k → lookup fm k .paired ≡ true
 
 -- "Can there be two pages that both claim to be current?" No two used pages have one order.
 abbrev pub orders-differ : Type 0

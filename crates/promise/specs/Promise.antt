@@ -6,16 +6,21 @@ use mathlib.Core.Bool.{true, false}
 use Rattle.rules.specs.Store.{states}
 use Rattle.rules.specs.Page.{Form}
 use Rattle.rules.specs.Call.{Roomy, pages, is-unclean, OK, NO-STORE, DAMAGED, UNCLEAN, Stepped, Reading}
-use Rattle.promise.specs.Calls.{Image, Question, value-at, Answer, Asks, finds, with-value, Calls, Obeys}
+use Rattle.promise.specs.Calls.{Image, Question, value-at, Answer, Asks, finds, EachAnswer, with-value, Calls, Obeys}
 use Rattle.promise.specs.History.{InUse, Recoveries, Interrupted}
 
 module _ (fm : Form) (C : Calls) where
-  -- k answers a question as i does; or as i does, with v as the value of a
+  -- k answers a question as i does
   abbrev pub Same : (q : Question) (i k : Image) → Type 0
   Same q i k = (before after : Answer q) → C .Answers q i before → C .Answers q k after → after ≡ before
 
+  -- before is what i answers to each question
+  abbrev pub AnswersEach : (i : Image) → EachAnswer → Type 0
+  AnswersEach i before = (q : Question) → C .Answers q i (before q)
+
+  -- k answers a question as i does, with v as the value of a
   abbrev pub Changed : (a v : ℕ) (q : Question) (i k : Image) → Type 0
-  Changed a v q i k = (before after : Answer q) → C .Answers q i before → C .Answers q k after → after ≡ with-value a v q before
+  Changed a v q i k = (before : EachAnswer) (after : Answer q) → AnswersEach i before → C .Answers q k after → after ≡ with-value a v before q
 
   -- What a finished write puts at an address, a read finds. This is so of every image that the write accepts.
   pub record Found (a v : ℕ) (i j : Image) : Type 0 where
@@ -33,8 +38,8 @@ module _ (fm : Form) (C : Calls) where
     pub old-or-new : {n : ℕ} {k : Image} → Interrupted fm C a v i n k → (q : Question) → Same q i k ⊎ Changed a v q i k
     -- If a failure at one step leaves the new value, a failure at any later step leaves it too.
     pub new-stays : {n m : ℕ} {k l : Image} → Interrupted fm C a v i n k → Interrupted fm C a v i m l → n < m
-        → (q : Question) (old one later : Answer q) → C .Answers q i old → C .Answers q k one → C .Answers q l later
-        → one ≡ with-value a v q old → later ≡ with-value a v q old
+        → (q : Question) (old : EachAnswer) (one later : Answer q) → AnswersEach i old → C .Answers q k one → C .Answers q l later
+        → one ≡ with-value a v old q → later ≡ with-value a v old q
     -- The store is in use again.
     pub still-in-use : {n : ℕ} {k : Image} → Interrupted fm C a v i n k → InUse fm C k
 

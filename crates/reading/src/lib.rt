@@ -8,15 +8,14 @@ use survey::ADDRESS;
 use survey::NOT_HELD;
 use survey::OK;
 ghost use mathlib.Core.Path.{_≡_};
-ghost use mathlib.Core.Bool.{not};
-ghost use mathlib.Core.List.{List, [], _∷_};
+ghost use mathlib.Core.List.{List};
 ghost use Prim.Native.Nat.{ℕ, _≤_, _<_};
 ghost use lib.ListN.{length};
-ghost use Rattle.rules.specs.Store.{Setting, Rising, last-of, or-value};
-ghost use Rattle.rules.specs.Call.{not-held-value, among, read, blank-read, lookup};
+ghost use Rattle.rules.specs.Store.{Setting, Rising, last-of};
+ghost use Rattle.rules.specs.Call.{read, blank-read, code, pairing, lookup};
 ghost use Rattle.pages.specs.Read.{as-form, Lawful};
 ghost use Rattle.settings.specs.Held.{Holds};
-ghost use Rattle.reading.specs.Answers.{as-reading, as-pairing, Coded};
+ghost use Rattle.reading.specs.Answers.{as-reading, as-pairing, digit-of};
 
 #[repr(C)]
 pub struct Reading {
@@ -35,22 +34,7 @@ pub struct Pairing {
 }
 
 // What a blank read gives of an address that is not held.
-const BLANK: u8 = 255;
-
-// The value of an address, 255 if it is not held.
-fn value_or_blank<'a>(
-    addresses: &'a [u16; HELD_MAX],
-    values: &'a [u8; HELD_MAX],
-    address: u16,
-) -> u8
-    ensures { λ r. ⌜ ((t : List Setting) (held : ℕ) → Rising t → length t ≤ 192 → address < 65535
-        → Holds (now (addresses .entry)) (now (values .entry)) held t → r ≡ or-value (last-of address t) not-held-value) ⌝ }
-{
-    match settings::value_in(addresses, values, address) {
-        Held::Value(value) => value,
-        Held::Nothing => BLANK,
-    }
-}
+const BLANK: u8 = 0;
 
 pub fn read(image: &[u8], form: Form, address: u16) -> Reading
     requires { ⌜ Lawful form ⌝ }
@@ -78,60 +62,57 @@ pub fn read(image: &[u8], form: Form, address: u16) -> Reading
     }
 }
 
+// C18. Blank read: what a read answers, and a blank of an address that is not held.
 pub fn blank_read(image: &[u8], form: Form, address: u16) -> Reading
     requires { ⌜ Lawful form ⌝ }
     ensures { λ r. ⌜ as-reading r ≡ blank-read (as-form form) address (now (image .entry)) ⌝ }
 {
-    let mut addresses = [NO_ADDRESS; HELD_MAX];
-    let mut values = [NO_VALUE; HELD_MAX];
-    let store = store::open(image, form, &mut addresses, &mut values);
-    let number = store.number;
-    if number != OK {
-        return Reading { number, value: 0 };
-    }
-    if address == NO_ADDRESS {
-        return Reading {
-            number: ADDRESS,
-            value: 0,
-        };
+    let reading = read(image, form, address);
+    let number = reading.number;
+    if number != NOT_HELD {
+        return reading;
     }
     Reading {
         number: OK,
-        value: value_or_blank(&addresses, &values, address),
+        value: BLANK,
     }
 }
 
-// C19. Pairing lookup: paired if none of the digits is 255.
-fn all_given(a: u8, b: u8, c: u8, d: u8) -> bool
-    ensures { λ r. ⌜ r ≡ not (among 255 (a ∷ b ∷ c ∷ d ∷ [])) ⌝ }
+// A digit of the pairing code: whether its address is held, and its blank read.
+struct Digit {
+    held: bool,
+    value: u8,
+}
+
+fn digit_at<'a>(addresses: &'a [u16; HELD_MAX], values: &'a [u8; HELD_MAX], address: u16) -> Digit
+    ensures { λ r. ⌜ ((t : List Setting) (held : ℕ) → Rising t → length t ≤ 192 → address < 65535
+        → Holds (now (addresses .entry)) (now (values .entry)) held t → r ≡ digit-of (last-of address t)) ⌝ }
 {
-    if a == BLANK {
-        return false;
+    match settings::value_in(addresses, values, address) {
+        Held::Value(value) => Digit { held: true, value },
+        Held::Nothing => Digit {
+            held: false,
+            value: BLANK,
+        },
     }
-    if b == BLANK {
-        return false;
-    }
-    if c == BLANK {
-        return false;
-    }
-    d != BLANK
 }
 
-// The four digits of the pairing code, at the addresses 16 to 19.
+// C19. Pairing lookup: the digits at the addresses 16 to 19, paired if all four are held, whatever their values.
 fn pairing_of<'a>(addresses: &'a [u16; HELD_MAX], values: &'a [u8; HELD_MAX]) -> Pairing
-    ensures { λ r. ⌜ Coded (now (addresses .entry)) (now (values .entry)) r ⌝ }
+    ensures { λ r. ⌜ ((t : List Setting) (held : ℕ) → Rising t → length t ≤ 192
+        → Holds (now (addresses .entry)) (now (values .entry)) held t → as-pairing r ≡ pairing (code (λ a. last-of a t))) ⌝ }
 {
-    let digit0 = value_or_blank(addresses, values, 16);
-    let digit1 = value_or_blank(addresses, values, 17);
-    let digit2 = value_or_blank(addresses, values, 18);
-    let digit3 = value_or_blank(addresses, values, 19);
+    let digit0 = digit_at(addresses, values, 16);
+    let digit1 = digit_at(addresses, values, 17);
+    let digit2 = digit_at(addresses, values, 18);
+    let digit3 = digit_at(addresses, values, 19);
     Pairing {
         number: OK,
-        paired: all_given(digit0, digit1, digit2, digit3),
-        digit0,
-        digit1,
-        digit2,
-        digit3,
+        paired: digit0.held & digit1.held & digit2.held & digit3.held,
+        digit0: digit0.value,
+        digit1: digit1.value,
+        digit2: digit2.value,
+        digit3: digit3.value,
     }
 }
 

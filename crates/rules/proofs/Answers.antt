@@ -1,9 +1,9 @@
 -- What each call answers, test by test: the laws that the calls in code cite. Assumes nothing.
-use Prim.Native.Nat.{ℕ, zero, suc, _<_}
-use mathlib.Core.Path.{_≡_, refl, _∙_}
-use mathlib.Core.Bool.{true, false, not}
+use Prim.Native.Nat.{ℕ, zero, suc, _≤_, _<_}
+use mathlib.Core.Path.{_≡_, refl, sym, _∙_}
+use mathlib.Core.Bool.{Bool, true, false, cond, not}
 use mathlib.Core.List.{List, [], _∷_}
-use mathlib.Core.Option.{none, some}
+use mathlib.Core.Option.{Option, none, some}
 use native.Mathlib.Omega.{arith}
 use lib.ListN.{length, take}
 use lib.Dec.{leb}
@@ -14,8 +14,9 @@ use Rattle.rules.specs.Store.{states, value, or-value}
 use Rattle.rules.specs.Steps.{format-steps, is-value}
 use Rattle.rules.proofs.Rows.{then, blank-read-goes-on, read-goes-on, write-goes-on}
 use Rattle.rules.specs.Call.{first-of, page-count, pages, wrong-size, store-number, write-only-rows, write-number, blank-read-number, read-number}
-use Rattle.rules.specs.Call.{is-unclean, wrong-address, is-held, no-room, order-end, accepted, format, stepped, read}
-use Rattle.rules.specs.Call.{blank-value, blank-read, digits, among, lookup, OK, SIZE, ADDRESS, NOT-HELD, UNCLEAN, NO-ROOM, ORDER-END}
+use Rattle.rules.specs.Call.{store-rows, blank-read-rows, no-store, damaged, is-unclean, wrong-address, is-held, no-room, order-end, accepted}
+use Rattle.rules.specs.Call.{format, stepped, read, blank-value, blank-read, code, pairing, lookup}
+use Rattle.rules.specs.Call.{OK, SIZE, NO-STORE, DAMAGED, ADDRESS, NOT-HELD, UNCLEAN, NO-ROOM, ORDER-END}
 
 -- ---- numbers
 
@@ -74,32 +75,59 @@ module _ (fm : Form) (i : List ℕ) (a : ℕ) where
     unfolding read then accepted is-held or-value
     read-nothing l e = rw (read-goes-on fm i a, blank-read-goes-on fm i a, ok, other-address a l, e)
 
-  -- ---- blank read
+  -- ---- blank read: it is the read, but of an address that is not held
 
-  pub blank-read-refused : (store-number fm i ≡ 0 → ⊥) → blank-read fm a i ≡ record { number = store-number fm i; value = 0 }
-  unfolding blank-read
-  blank-read-refused h =
-      let e : blank-read-number fm a i ≡ store-number fm i = blank-read-goes-on fm i a ∙ then-refused (store-number fm i) _ h in
-      rw (e, not-accepted (store-number fm i) h)
+  -- none of its rows is NOT HELD
+  not-nothing : blank-read-number fm a i ≡ NOT-HELD → ⊥
+  unfolding blank-read-number blank-read-rows store-rows first-of
+  not-nothing = none-of (wrong-size fm i) (no-store (pages fm i)) (damaged (pages fm i)) (wrong-address a)
+    where
+      none-of : (p q s t : Bool) → cond p SIZE (cond q NO-STORE (cond s DAMAGED (cond t ADDRESS OK))) ≡ NOT-HELD → ⊥
+      none-of true q s t e = omega arith
+      none-of false true s t e = omega arith
+      none-of false false true t e = omega arith
+      none-of false false false true e = omega arith
+      none-of false false false false e = omega arith
 
-  module _ (ok : store-number fm i ≡ 0) where
-    pub blank-read-last : a ≡ 65535 → blank-read fm a i ≡ record { number = ADDRESS; value = 0 }
-    unfolding blank-read then accepted
-    blank-read-last e = rw (blank-read-goes-on fm i a, ok, last-address a e)
+  pub blank-read-nothing : read fm a i .number ≡ NOT-HELD → blank-read fm a i ≡ record { number = OK; value = 0 }
+  unfolding read blank-read accepted blank-value or-value then is-held
+  blank-read-nothing e =
+      let h = told (blank-read-number fm a i) (value a (pages fm i)) not-nothing (sym (read-goes-on fm i a) ∙ e) in
+      rw (h .0, h .1)
+    where
+      told : (b : ℕ) (o : Option ℕ) → (b ≡ NOT-HELD → ⊥) → then b (cond (not (is-held o)) NOT-HELD OK) ≡ NOT-HELD → (b ≡ OK) × (o ≡ none)
+      told zero none nb e = (refl, refl)
+      told zero (some v) nb e = absurd (omega arith)
+      told (suc n) o nb e = absurd (nb e)
 
-    pub blank-read-found : a < 65535 → blank-read fm a i ≡ record { number = OK; value = blank-value fm a i }
-    unfolding blank-read then accepted
-    blank-read-found l = rw (blank-read-goes-on fm i a, ok, other-address a l)
+  pub blank-read-else : (read fm a i .number ≡ NOT-HELD → ⊥) → blank-read fm a i ≡ read fm a i
+  unfolding read blank-read blank-value then is-held
+  blank-read-else ne = rw (read-goes-on fm i a ∙ other (blank-read-number fm a i) (value a (pages fm i)) (λ e. ne (read-goes-on fm i a ∙ e)))
+    where
+      other : (b : ℕ) (o : Option ℕ) → (then b (cond (not (is-held o)) NOT-HELD OK) ≡ NOT-HELD → ⊥) → then b (cond (not (is-held o)) NOT-HELD OK) ≡ b
+      other zero none ne = absurd (ne refl)
+      other zero (some v) ne = refl
+      other (suc n) o ne = refl
 
 -- ---- lookup
+
+-- a code is by its four values alone
+pub same-code : (f g : ℕ → Option ℕ) → ((x : ℕ) → 16 ≤ x → x ≤ 19 → f x ≡ g x) → code f ≡ code g
+unfolding code
+same-code f g e =
+    rw (
+      e 16 (omega arith) (omega arith),
+      e 17 (omega arith) (omega arith),
+      e 18 (omega arith) (omega arith),
+      e 19 (omega arith) (omega arith),
+    )
 
 pub lookup-refused : (fm : Form) (i : List ℕ) → (store-number fm i ≡ 0 → ⊥)
     → lookup fm i ≡ record { number = store-number fm i; paired = false; digits = 0 ∷ 0 ∷ 0 ∷ 0 ∷ [] }
 unfolding lookup
 lookup-refused fm i h = rw (not-accepted (store-number fm i) h)
 
-pub lookup-done : (fm : Form) (i : List ℕ) → store-number fm i ≡ 0
-    → lookup fm i ≡ record { number = OK; paired = not (among 255 (digits fm i)); digits = digits fm i }
+pub lookup-done : (fm : Form) (i : List ℕ) → store-number fm i ≡ 0 → lookup fm i ≡ pairing (code (λ a. value a (pages fm i)))
 unfolding lookup accepted
 lookup-done fm i ok = rw ok
 

@@ -208,24 +208,27 @@ read f a i =
     let number = read-number f a i in
     record { number = number; value = cond (accepted number) (or-value (value a (pages f i)) 0) 0 }
 
--- C18. Blank read: 255 for an address that isn't held.
-unfoldable pub not-held-value : ℕ
-not-held-value = 255
-
-unfoldable pub blank-value : (form : Form) (address : ℕ) → List ℕ → ℕ
-blank-value f a i = or-value (value a (pages f i)) not-held-value
+-- C18. Blank read: 0 for an address that isn't held.
+unfoldable pub blank-value : Option ℕ → ℕ
+blank-value o = or-value o 0
 
 unfoldable pub blank-read : (form : Form) (address : ℕ) → List ℕ → Reading
 blank-read f a i =
     let number = blank-read-number f a i in
-    record { number = number; value = cond (accepted number) (blank-value f a i) 0 }
+    record { number = number; value = cond (accepted number) (blank-value (value a (pages f i))) 0 }
 
--- C19. Pairing lookup: the blank reads of 16 to 19, and paired if none of them is 255.
-unfoldable pub digits : (form : Form) → List ℕ → List ℕ
-digits f i = blank-value f 16 i ∷ blank-value f 17 i ∷ blank-value f 18 i ∷ blank-value f 19 i ∷ []
+-- C19. Pairing lookup: the blank reads of 16 to 19 are the digits, and it is paired if all four are held, whatever their values.
+unfoldable pub code : (held : ℕ → Option ℕ) → List (Option ℕ)
+code held = held 16 ∷ held 17 ∷ held 18 ∷ held 19 ∷ []
+
+unfoldable pub all-held : List (Option ℕ) → Bool
+all-held [] = true
+all-held (o ∷ os) = is-held o && all-held os
+
+unfoldable pub pairing : (code : List (Option ℕ)) → Pairing
+pairing os = record { number = OK; paired = all-held os; digits = map blank-value os }
 
 unfoldable pub lookup : (form : Form) → List ℕ → Pairing
 lookup f i =
-    cond (accepted (store-number f i))
-    (record { number = OK; paired = not (among 255 (digits f i)); digits = digits f i })
+    cond (accepted (store-number f i)) (pairing (code (λ a. value a (pages f i))))
     (record { number = store-number f i; paired = false; digits = 0 ∷ 0 ∷ 0 ∷ 0 ∷ [] })

@@ -1,19 +1,18 @@
--- `reading::lookup` meets its contract: its digits are the four blank values. Assumes nothing.
+-- `reading::lookup` meets its contract: its digits are the values of the four addresses. Assumes nothing.
 use Prim.Native.Nat.{ℕ}
-use mathlib.Core.Path.{sym, _∙_}
+use mathlib.Core.Path.{sym, ap, _∙_}
 use mathlib.Core.List.{List}
 use denote.Ref.{now}
 use borrow.Author.Needs.{needs}
-use Rattle.rules.specs.Store.{settings}
-use Rattle.rules.specs.Call.{pages}
+use Rattle.rules.specs.Store.{last-of, settings, value}
+use Rattle.rules.specs.Call.{pages, pairing}
 use Rattle.rules.specs.Page.{Form}
-use Rattle.rules.proofs.Answers.{lookup-refused, lookup-done}
-use Rattle.rules.proofs.Held.{held-rising}
+use Rattle.rules.proofs.Answers.{same-code, lookup-refused, lookup-done}
+use Rattle.rules.proofs.Held.{held-rising, value-is}
 use Rattle.pages.specs.Read.{as-form}
 use Rattle.settings.proofs.Tables.{holds-none}
 use Rattle.store.specs.Opened.{Opens}
 use Rattle.store.proofs.Values.{store-ok, table-few}
-use Rattle.reading.proofs.Values.{code-is}
 use Rattle.reading.proofs.lookup.Statement.{statement}
 use Rattle.reading.proofs.lookup.Tie as tie
 
@@ -49,7 +48,8 @@ returns-2 c =
     let o = opens (right .before) in
     let z = right .if1 .left in
     c .pairing-of .ensures (settings (pages fm i)) _ (held-rising fm i) (table-few o z) (o .holding z .holds)
-    ∙ rw (code-is fm i) (sym (lookup-done fm i (store-ok o z)))
+    ∙ ap pairing (same-code (λ a. last-of a (settings (pages fm i))) (λ a. value a (pages fm i)) (λ a l m. value-is fm i a))
+    ∙ sym (lookup-done fm i (store-ok o z))
 
 pub lookup-spec : {M : Type 1} → statement M
 lookup-spec = tie.close (tie.spec open-requires returns pairing-of-requires returns-2)

@@ -1,12 +1,12 @@
--- `reading::value_or_blank` meets its contract. Assumes nothing.
+-- `reading::digit_at` meets its contract. Assumes nothing.
 use mathlib.Core.Path.{_≡_, sym, ap, _∙_}
 use mathlib.Core.Option.{none, some}
 use borrow.Author.Needs.{needs}
 use Rattle.rules.specs.Store.{last-of, or-value}
-use Rattle.rules.specs.Call.{not-held-value}
+use Rattle.rules.specs.Call.{is-held, blank-value}
 use Rattle.settings.specs.Held.{as-option}
-use Rattle.reading.proofs.value_or_blank.Statement.{statement}
-use Rattle.reading.proofs.value_or_blank.Tie as tie
+use Rattle.reading.proofs.digit_at.Statement.{statement}
+use Rattle.reading.proofs.digit_at.Tie as tie
 
 value-in-requires : tie.Need-value-in-requires
 value-in-requires c κs = search needs
@@ -18,7 +18,7 @@ enum-told : tie.Need-enum-told
 enum-told c = search needs
 
 returns : tie.Need-returns
-unfolding or-value
+unfolding is-held blank-value or-value
 returns c =
     λ t held r l a h.
     let found = c .before .before .before in
@@ -28,7 +28,7 @@ returns c =
     rw (← e)
 
 returns-2 : tie.Need-returns-2
-unfolding or-value not-held-value
+unfolding is-held blank-value or-value
 returns-2 c =
     λ t held r l a h.
     let found = c .before .before in
@@ -36,5 +36,5 @@ returns-2 c =
     ap as-option (sym (c .enum-told .given .1)) ∙ found .value-in .ensures t held r l a h in
     rw (← e)
 
-pub value-or-blank-spec : {M : Type 1} → statement M
-value-or-blank-spec = tie.close (tie.spec value-in-requires enum-known-value enum-told returns returns-2)
+pub digit-at-spec : {M : Type 1} → statement M
+digit-at-spec = tie.close (tie.spec value-in-requires enum-known-value enum-told returns returns-2)

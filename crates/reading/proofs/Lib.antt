@@ -1,2 +1,0 @@
--- Laws of the code's own, for its proofs and for the crates below.
-pub mod Values
