@@ -292,7 +292,7 @@ fn both_stores_agree() {
 
 /// The forward and the backward search of the second implementation, and its listing, say the same.
 #[test]
-fn the_listing_agrees_with_blank_reads() {
+fn the_listing_agrees_with_reads() {
     for seed in seeds(2_000) {
         let image = images::image(seed);
         let text = String::from_utf8(listing(&image)).unwrap();

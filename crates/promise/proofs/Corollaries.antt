@@ -1,7 +1,7 @@
 -- The corollaries, proved. Assumes nothing.
 use Prim.Native.Nat.{ℕ}
 use mathlib.Core.Path.{_≡_, refl, sym, ap, _∙_, subst⁻¹}
-use mathlib.Core.Logic.{⊎-elim}
+use mathlib.Core.Logic.{inl, inr, ⊎-elim}
 use mathlib.Core.Bool.{true, false}
 use mathlib.Core.List.{List, [], _∷_}
 use mathlib.Core.Option.{Option}
@@ -40,7 +40,9 @@ obeyed : (fm : Form) → Obeys fm (by-the-rules fm)
 obeyed fm = record { formats = λ i f e. e; recovers = λ n i s e. e; writes = λ a v n i s e. e; answers = λ q i r e. e }
 
 pub code-survives : the-code-survives
-code-survives fm roomy i u a v n k x = kept fm roomy (by-the-rules fm) (obeyed fm) .loses-nothing i u a v .old-or-new x pairing-code
+code-survives fm roomy i u a v n k x =
+    ⊎-elim (λ same. inl (same pairing-code)) (λ new. inr (new pairing-code))
+    (kept fm roomy (by-the-rules fm) (obeyed fm) .loses-nothing i u a v .old-or-new x)
 
 -- ---- pages
 

@@ -146,8 +146,8 @@ module _ (fm : Form) (roomy : Roomy fm) (C : Calls) (obeys : Obeys fm C) where
           ⊎-elim (λ g. inl (recoveries-keep g (x .then))) (λ g. inr (recoveries-keep g (x .then)))
           (write-left h a v (write-ok (x .write)) tt (write-bytes (x .write)))
 
-      old-or-new : (q : Question) → Same fm C q i k ⊎ Changed fm C a v q i k
-      old-or-new q = ⊎-elim (λ g. inl (same h g q)) (λ g. inr (changes a v address-ok h g q)) either
+      old-or-new : ((q : Question) → Same fm C q i k) ⊎ ((q : Question) → Changed fm C a v q i k)
+      old-or-new = ⊎-elim (λ g. inl (same h g)) (λ g. inr (changes a v address-ok h g)) either
 
       in-use-then : {j l : Image} → InUse fm C j → Recoveries fm C j l → InUse fm C l
       in-use-then w no-more = w
@@ -160,7 +160,7 @@ module _ (fm : Form) (roomy : Roomy fm) (C : Calls) (obeys : Obeys fm C) where
         ⊎-elim
         (λ g.
         let was : old q ≡ with-value a v old q = sym (same h (recoveries-keep g (x .then)) q (old q) one (p q) r) ∙ e in
-        ⊎-elim (λ f. f (old q) later (p q) s ∙ was) (λ f. f old later p s) (old-or-new y q))
+        ⊎-elim (λ f. f q (old q) later (p q) s ∙ was) (λ f. f q old later p s) (old-or-new y))
         (λ g. changes a v (address-ok y) h (recoveries-keep g (y .then)) q old later p s)
         (write-later h a v (write-ok (x .write)) tt (write-bytes (x .write)) (write-bytes (y .write)) lt)
 

@@ -34,8 +34,8 @@ module _ (fm : Form) (C : Calls) where
   pub record NothingLost (a v : ℕ) (i : Image) : Type 0 where
     -- Every other address answers as before.
     pub others : {n : ℕ} {k : Image} → Interrupted fm C a v i n k → (q : Question) → (Asks q a → ⊥) → Same q i k
-    -- The written address answers as before the write, or with the new value.
-    pub old-or-new : {n : ℕ} {k : Image} → Interrupted fm C a v i n k → (q : Question) → Same q i k ⊎ Changed a v q i k
+    -- The written address answers as before the write, or with the new value; and it is the one or the other for every question.
+    pub old-or-new : {n : ℕ} {k : Image} → Interrupted fm C a v i n k → ((q : Question) → Same q i k) ⊎ ((q : Question) → Changed a v q i k)
     -- If a failure at one step leaves the new value, a failure at any later step leaves it too.
     pub new-stays : {n m : ℕ} {k l : Image} → Interrupted fm C a v i n k → Interrupted fm C a v i m l → n < m
         → (q : Question) (old : EachAnswer) (one later : Answer q) → AnswersEach i old → C .Answers q k one → C .Answers q l later
