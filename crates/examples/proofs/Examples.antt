@@ -20,7 +20,7 @@ use Rattle.rules.specs.Steps.{has-free-slot, is-value, write-steps}
 use Rattle.rules.specs.Call.{this-form, first-of, store-rows, blank-read-rows, read-rows, write-rows, cut, page-count, pages, wrong-size, no-store}
 use Rattle.rules.specs.Call.{among, repeats, all-used, damaged, is-unclean, wrong-address, is-held, no-room, order-end, store-number}
 use Rattle.rules.specs.Call.{write-number, blank-read-number, read-number, accepted, format, stepped, recover, write, read}
-use Rattle.rules.specs.Call.{blank-value, blank-read, code, all-held, pairing, lookup}
+use Rattle.rules.specs.Call.{reading, blank-value, blank-read, code, all-held, pairing, lookup}
 use Rattle.rules.specs.Listing.{is-half, is-spoiled, used-conditions, half, spoiled}
 use Rattle.rules.proofs.Laid.{laid, laid-all, within, run-laid}
 use Rattle.examples.specs.Examples.{same, holds, bytes, told, said, yes-no, did, showed, done-by, broken, empty-flash, numbers, written, rows, table}
@@ -45,7 +45,7 @@ unfolding same holds bytes told said yes-no did showed done-by broken laid laid-
     renew-picked unclean recovery-steps append-steps taken open-steps but copy-steps move-steps has-free-slot is-value write-steps
     first-of store-rows blank-read-rows read-rows write-rows way way-steps new-page next-order fill-steps other cut page-count pages wrong-size
     no-store among repeats all-used damaged is-unclean wrong-address is-held no-room order-end store-number write-number blank-read-number
-    read-number accepted format stepped recover write or-value read blank-value blank-read code all-held pairing lookup
+    read-number accepted format stepped recover write or-value reading read blank-value blank-read code all-held pairing lookup
 computed = tt
 
 pub examples : the-examples-hold

@@ -11,8 +11,8 @@ use Rattle.rules.specs.Flash.{Step, run}
 use Rattle.rules.specs.Page.{size}
 use Rattle.rules.specs.Call.{this-form, page-count, wrong-size, store-number, write-number, read-number, blank-read-number, OK}
 use Rattle.rules.specs.Store.{value, or-value}
-use Rattle.rules.specs.Call.{SIZE, Stepped, Reading, Pairing, Formatted, accepted, stepped, recover, write, pages, read, blank-value, blank-read}
-use Rattle.rules.specs.Call.{code, pairing, lookup}
+use Rattle.rules.specs.Call.{SIZE, Stepped, Reading, Pairing, Formatted, stepped, recover, write, pages, read, blank-value, blank-read}
+use Rattle.rules.specs.Call.{reading, code, pairing, lookup}
 use Rattle.rules.proofs.Truth.{by-cases}
 use Rattle.rules.proofs.Answers.{not-accepted, format-refused, format-done, stepped-refused, stepped-done, lookup-refused, lookup-done}
 use Rattle.promise.specs.Calls.{Question, value-at, blank-value-at, pairing-code, Answer, answer, Obeys}
@@ -46,7 +46,8 @@ module _ (number n : ℕ) (ss : List Step) (i : List ℕ) (r : Done) (j : List �
 
 -- ---- read and blank read: an answer with a value
 
-read-so : (n v : ℕ) (r : Read) → as-reading r ≡ record { number = n; value = cond (accepted n) v 0 } → (r .number ≡ n) × ((r .number ≡ OK → ⊥) → r .value ≡ 0)
+read-so : (n v : ℕ) (r : Read) → as-reading r ≡ reading n v → (r .number ≡ n) × ((r .number ≡ OK → ⊥) → r .value ≡ 0)
+unfolding reading
 read-so n v r h =
     let e = ap (λ (q : Reading). q .number) h in
     (e, λ ne. ap (λ (q : Reading). q .value) h ∙ rw (not-accepted n (λ z. ne (e ∙ z))))

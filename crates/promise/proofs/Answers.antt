@@ -11,25 +11,21 @@ use Rattle.rules.specs.Page.{Form}
 use Rattle.rules.specs.Store.{states, value, or-value}
 use Rattle.rules.specs.Steps.{is-value}
 use Rattle.rules.specs.Call.{pages, is-unclean, wrong-address, is-held, no-room, order-end, first-of, store-number, write-number, accepted}
-use Rattle.rules.specs.Call.{blank-value, code, all-held, pairing, read, blank-read, lookup, OK, NO-STORE, DAMAGED, UNCLEAN, ADDRESS}
-use Rattle.rules.specs.Call.{NO-ROOM, ORDER-END, NOT-HELD, Pairing}
+use Rattle.rules.specs.Call.{blank-value, code, all-held, pairing, reading, read, blank-read, lookup, OK, NO-STORE, DAMAGED, UNCLEAN, ADDRESS}
+use Rattle.rules.specs.Call.{NO-ROOM, ORDER-END, NOT-HELD, Pairing, row, among}
 use Rattle.rules.proofs.Truth.{and-left, and-right, and-both, by-cases}
 use Rattle.rules.proofs.Answers.{other-address, same-code, lookup-done}
-use Rattle.rules.proofs.Rows.{then, blank-read-goes-on, read-goes-on, write-goes-on}
+use Rattle.rules.proofs.Rows.{numbers, not-given, then, blank-read-goes-on, read-goes-on, write-goes-on}
 use Rattle.rules.proofs.Good.{changed}
 use Rattle.rules.proofs.Healthy.{Healthy, value-here, store-ok}
 use Rattle.promise.specs.Calls.{Image, Question, value-at, blank-value-at, pairing-code, Answer, Asks, EachAnswer, found-value, with-value, answer}
 
 -- by the values, an address not held having none
 read-by : (address : ℕ) → Option ℕ → Answer (value-at address)
-read-by x o =
-    let number = then (cond (wrong-address x) ADDRESS OK) (cond (not (is-held o)) NOT-HELD OK) in
-    record { number = number; value = cond (accepted number) (or-value o 0) 0 }
+read-by x o = reading (then (cond (wrong-address x) ADDRESS OK) (cond (not (is-held o)) NOT-HELD OK)) (or-value o 0)
 
 blank-read-by : (address : ℕ) → Option ℕ → Answer (blank-value-at address)
-blank-read-by x o =
-    let number = cond (wrong-address x) ADDRESS OK in
-    record { number = number; value = cond (accepted number) (blank-value o) 0 }
+blank-read-by x o = reading (cond (wrong-address x) ADDRESS OK) (blank-value o)
 
 pub answer-by : (ℕ → Option ℕ) → EachAnswer
 answer-by t (value-at x) = read-by x (t x)
@@ -50,7 +46,7 @@ paired-if h = ap (λ (r : Pairing). r .paired) (answers-are h pairing-code)
 
 -- what a read of a digit finds is what is held
 digit-found : (x : ℕ) → x ≤ 19 → (o : Option ℕ) → found-value (read-by x o) ≡ o
-unfolding found-value read-by then accepted is-held or-value
+unfolding found-value read-by reading then accepted is-held or-value
 digit-found x l none = rw (other-address x (omega arith))
 digit-found x l (some v) = rw (other-address x (omega arith))
 
@@ -65,7 +61,7 @@ module _ (a v : ℕ) where
 -- with v at a
 module _ (a v : ℕ) (t : ℕ → Option ℕ) where
   pub answer-changed : wrong-address a ≡ false → (q : Question) → answer-by (changed a v t) q ≡ with-value a v (answer-by t) q
-  unfolding answer-by read-by blank-read-by with-value then accepted is-held or-value blank-value
+  unfolding answer-by read-by blank-read-by reading with-value then accepted is-held or-value blank-value
   answer-changed w (value-at x) = by-cases (eqb x a) (λ e. rw (e, eqb-true x a e, w)) (λ e. rw e)
   answer-changed w (blank-value-at x) = by-cases (eqb x a) (λ e. rw (e, eqb-true x a e, w)) (λ e. rw e)
   answer-changed w pairing-code = ap pairing (same-code _ _ (λ x l m. rw (digit-found x m (t x))))
@@ -92,14 +88,8 @@ still-held a v t = of (16 ∷ 17 ∷ 18 ∷ 19 ∷ [])
 -- a write of a clean store is not refused for the store's sake
 pub not-refused : (fm : Form) (a v : ℕ) (i : Image) → store-number fm i ≡ OK → is-unclean (states (pages fm i)) ≡ false
     → let n = write-number fm a v i in (n ≡ NO-STORE → ⊥) × (n ≡ DAMAGED → ⊥) × (n ≡ UNCLEAN → ⊥)
-unfolding then first-of
+unfolding then first-of numbers among
 not-refused fm a v i ok clean =
-    rw (write-goes-on fm i a v, ok, clean) (not-these (wrong-address a) (is-value (value a (pages fm i)) v) (no-room a (pages fm i)) (order-end (pages fm i)))
-  where
-    not-these : (p q s t : Bool) → let n = cond p ADDRESS (cond q OK (cond s NO-ROOM (cond t ORDER-END OK))) in
-        (n ≡ NO-STORE → ⊥) × (n ≡ DAMAGED → ⊥) × (n ≡ UNCLEAN → ⊥)
-    not-these true q s t = (λ e. omega arith, λ e. omega arith, λ e. omega arith)
-    not-these false true s t = (λ e. omega arith, λ e. omega arith, λ e. omega arith)
-    not-these false false true t = (λ e. omega arith, λ e. omega arith, λ e. omega arith)
-    not-these false false false true = (λ e. omega arith, λ e. omega arith, λ e. omega arith)
-    not-these false false false false = (λ e. omega arith, λ e. omega arith, λ e. omega arith)
+    let ps = pages fm i in
+    let rest = row ADDRESS (wrong-address a) ∷ row OK (is-value (value a ps) v) ∷ row NO-ROOM (no-room a ps) ∷ row ORDER-END (order-end ps) ∷ [] in
+    rw (write-goes-on fm i a v, ok, clean) (not-given NO-STORE rest refl, not-given DAMAGED rest refl, not-given UNCLEAN rest refl)

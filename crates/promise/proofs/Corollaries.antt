@@ -21,7 +21,7 @@ use Rattle.rules.specs.Steps.{has-free-slot, is-value, write-steps}
 use Rattle.rules.specs.Call.{Formatted, Stepped, stepped, write, first-of, store-rows, blank-read-rows, read-rows, write-rows, this-form, Roomy}
 use Rattle.rules.specs.Call.{OK, cut, page-count, pages, wrong-size, no-store, among, repeats, all-used, damaged, is-unclean}
 use Rattle.rules.specs.Call.{wrong-address, is-held, no-room, order-end, store-number, write-number, blank-read-number, read-number, accepted}
-use Rattle.rules.specs.Call.{format, read}
+use Rattle.rules.specs.Call.{format, reading, read}
 use Rattle.rules.proofs.Bits.{rises-refl}
 use Rattle.rules.proofs.Laid.{laid, laid-all, within, run-laid}
 use Rattle.rules.proofs.Plans.{BytesLeft}
@@ -109,7 +109,7 @@ unfolding with-second laid-out laid laid-all offset aim after run zeros check so
     settings held past free-slot active-slots count renew renew-all format-steps unclean append-steps has-free-slot is-value write-steps
     first-of store-rows blank-read-rows read-rows write-rows way way-steps new-page next-order fill-steps other cut page-count pages wrong-size
     no-store among repeats all-used damaged is-unclean wrong-address is-held no-room order-end store-number write-number blank-read-number
-    read-number accepted format or-value read bytes-at
+    read-number accepted format or-value reading read bytes-at
 computed = record { lawful = refl; accepted = refl; steps = refl; torn = refl; torn-reads = refl; whole = refl; whole-reads = refl }
 
 -- a write that is stopped after n of its steps ss, and what is left when the next fails

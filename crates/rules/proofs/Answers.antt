@@ -1,7 +1,7 @@
 -- What each call answers, test by test: the laws that the calls in code cite. Assumes nothing.
 use Prim.Native.Nat.{ℕ, zero, suc, _≤_, _<_}
 use mathlib.Core.Path.{_≡_, refl, sym, _∙_}
-use mathlib.Core.Bool.{Bool, true, false, cond, not}
+use mathlib.Core.Bool.{true, false, cond, not}
 use mathlib.Core.List.{List, [], _∷_}
 use mathlib.Core.Option.{Option, none, some}
 use native.Mathlib.Omega.{arith}
@@ -12,11 +12,11 @@ use Rattle.rules.specs.Flash.{Step, run}
 use Rattle.rules.specs.Page.{Form, size}
 use Rattle.rules.specs.Store.{states, value, or-value}
 use Rattle.rules.specs.Steps.{format-steps, is-value}
-use Rattle.rules.proofs.Rows.{then, blank-read-goes-on, read-goes-on, write-goes-on}
+use Rattle.rules.proofs.Rows.{numbers, not-given, then, blank-read-goes-on, read-goes-on, write-goes-on}
 use Rattle.rules.specs.Call.{first-of, page-count, pages, wrong-size, store-number, write-only-rows, write-number, blank-read-number, read-number}
-use Rattle.rules.specs.Call.{store-rows, blank-read-rows, no-store, damaged, is-unclean, wrong-address, is-held, no-room, order-end, accepted}
-use Rattle.rules.specs.Call.{format, stepped, read, blank-value, blank-read, code, pairing, lookup}
-use Rattle.rules.specs.Call.{OK, SIZE, NO-STORE, DAMAGED, ADDRESS, NOT-HELD, UNCLEAN, NO-ROOM, ORDER-END}
+use Rattle.rules.specs.Call.{store-rows, blank-read-rows, among, is-unclean, wrong-address, is-held, no-room, order-end, accepted}
+use Rattle.rules.specs.Call.{format, stepped, reading, read, blank-value, blank-read, code, pairing, lookup}
+use Rattle.rules.specs.Call.{OK, SIZE, ADDRESS, NOT-HELD, UNCLEAN, NO-ROOM, ORDER-END}
 
 -- ---- numbers
 
@@ -56,7 +56,7 @@ format-done fm i w = rw w
 
 module _ (fm : Form) (i : List ℕ) (a : ℕ) where
   pub read-refused : (store-number fm i ≡ 0 → ⊥) → read fm a i ≡ record { number = store-number fm i; value = 0 }
-  unfolding read
+  unfolding read reading
   read-refused h =
       let e : blank-read-number fm a i ≡ store-number fm i = blank-read-goes-on fm i a ∙ then-refused (store-number fm i) _ h in
       let f : read-number fm a i ≡ store-number fm i = read-goes-on fm i a ∙ rw e (then-refused (store-number fm i) _ h) in
@@ -64,35 +64,23 @@ module _ (fm : Form) (i : List ℕ) (a : ℕ) where
 
   module _ (ok : store-number fm i ≡ 0) where
     pub read-last : a ≡ 65535 → read fm a i ≡ record { number = ADDRESS; value = 0 }
-    unfolding read then accepted
+    unfolding read reading then accepted
     read-last e = rw (read-goes-on fm i a, blank-read-goes-on fm i a, ok, last-address a e)
 
     pub read-found : (v : ℕ) → a < 65535 → value a (pages fm i) ≡ some v → read fm a i ≡ record { number = OK; value = v }
-    unfolding read then accepted is-held or-value
+    unfolding read reading then accepted is-held or-value
     read-found v l e = rw (read-goes-on fm i a, blank-read-goes-on fm i a, ok, other-address a l, e)
 
     pub read-nothing : a < 65535 → value a (pages fm i) ≡ none → read fm a i ≡ record { number = NOT-HELD; value = 0 }
-    unfolding read then accepted is-held or-value
+    unfolding read reading then accepted is-held or-value
     read-nothing l e = rw (read-goes-on fm i a, blank-read-goes-on fm i a, ok, other-address a l, e)
 
   -- ---- blank read: it is the read, but of an address that is not held
 
-  -- none of its rows is NOT HELD
-  not-nothing : blank-read-number fm a i ≡ NOT-HELD → ⊥
-  unfolding blank-read-number blank-read-rows store-rows first-of
-  not-nothing = none-of (wrong-size fm i) (no-store (pages fm i)) (damaged (pages fm i)) (wrong-address a)
-    where
-      none-of : (p q s t : Bool) → cond p SIZE (cond q NO-STORE (cond s DAMAGED (cond t ADDRESS OK))) ≡ NOT-HELD → ⊥
-      none-of true q s t e = omega arith
-      none-of false true s t e = omega arith
-      none-of false false true t e = omega arith
-      none-of false false false true e = omega arith
-      none-of false false false false e = omega arith
-
   pub blank-read-nothing : read fm a i .number ≡ NOT-HELD → blank-read fm a i ≡ record { number = OK; value = 0 }
-  unfolding read blank-read accepted blank-value or-value then is-held
+  unfolding read blank-read reading accepted blank-value or-value then is-held blank-read-number blank-read-rows store-rows numbers among
   blank-read-nothing e =
-      let h = told (blank-read-number fm a i) (value a (pages fm i)) not-nothing (sym (read-goes-on fm i a) ∙ e) in
+      let h = told (blank-read-number fm a i) (value a (pages fm i)) (not-given NOT-HELD (blank-read-rows fm a i) refl) (sym (read-goes-on fm i a) ∙ e) in
       rw (h .0, h .1)
     where
       told : (b : ℕ) (o : Option ℕ) → (b ≡ NOT-HELD → ⊥) → then b (cond (not (is-held o)) NOT-HELD OK) ≡ NOT-HELD → (b ≡ OK) × (o ≡ none)
@@ -101,7 +89,7 @@ module _ (fm : Form) (i : List ℕ) (a : ℕ) where
       told (suc n) o nb e = absurd (nb e)
 
   pub blank-read-else : (read fm a i .number ≡ NOT-HELD → ⊥) → blank-read fm a i ≡ read fm a i
-  unfolding read blank-read blank-value then is-held
+  unfolding read blank-read reading blank-value then is-held
   blank-read-else ne = rw (read-goes-on fm i a ∙ other (blank-read-number fm a i) (value a (pages fm i)) (λ e. ne (read-goes-on fm i a ∙ e)))
     where
       other : (b : ℕ) (o : Option ℕ) → (then b (cond (not (is-held o)) NOT-HELD OK) ≡ NOT-HELD → ⊥) → then b (cond (not (is-held o)) NOT-HELD OK) ≡ b

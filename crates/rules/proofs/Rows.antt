@@ -1,15 +1,18 @@
 -- The order of the tests: a call answers OK exactly if every test of its table fails. Assumes nothing.
 use Prim.Native.Nat.{ℕ, zero, suc}
-use mathlib.Core.Path.{_≡_, refl}
+use mathlib.Core.Path.{_≡_, refl, sym}
 use mathlib.Core.Bool.{true, false, cond, not, true≢false}
 use mathlib.Core.List.{List, [], _∷_, _++_}
 use native.Mathlib.Omega.{arith}
+use lib.Dec.{eqb}
+use borrow.Author.Tests.{eq-eqb}
 use Rattle.rules.specs.Page.{Form}
 use Rattle.rules.specs.Store.{states, value}
 use Rattle.rules.specs.Steps.{is-value}
 use Rattle.rules.specs.Call.{Row, row, first-of, pages, wrong-size, no-store, damaged, is-unclean, wrong-address, is-held, no-room}
 use Rattle.rules.specs.Call.{order-end, store-rows, store-number, blank-read-rows, blank-read-number, read-rows, read-number, write-only-rows}
-use Rattle.rules.specs.Call.{write-rows, write-number, OK, ADDRESS, NOT-HELD}
+use Rattle.rules.specs.Call.{write-rows, write-number, among, OK, ADDRESS, NOT-HELD}
+use Rattle.rules.proofs.Truth.{not-both, or-first, or-false-right}
 
 -- every test fails, up to a row of OK whose test holds
 unfoldable pub AllFail : List Row → Type 0
@@ -31,6 +34,17 @@ none-given [] h = refl
 none-given (row zero true ∷ rows) h = refl
 none-given (row zero false ∷ rows) h = none-given rows (h refl)
 none-given (row (suc n) t ∷ rows) h = rw (h .0) (none-given rows (h .1))
+
+-- a number that no row has, and that is not OK, is not given
+unfoldable pub numbers : List Row → List ℕ
+numbers [] = OK ∷ []
+numbers (row n t ∷ rows) = n ∷ numbers rows
+
+pub not-given : (number : ℕ) (rows : List Row) → among number (numbers rows) ≡ false → first-of rows ≡ number → ⊥
+unfolding numbers among first-of
+not-given number [] h e = not-both (or-first false (eq-eqb number OK (sym e))) h
+not-given number (row n true ∷ rows) h e = not-both (or-first (among number (numbers rows)) (eq-eqb number n (sym e))) h
+not-given number (row n false ∷ rows) h e = not-given number rows (or-false-right (eqb number n) (among number (numbers rows)) h) e
 
 -- the next number, unless one is given already
 unfoldable pub then : ℕ → ℕ → ℕ

@@ -202,20 +202,20 @@ recover f n i = stepped f (store-number f i) n (recovery-steps (f .edition) (pag
 unfoldable pub write : (form : Form) (address value allowance : ℕ) → List ℕ → Stepped
 write f a v n i = stepped f (write-number f a v i) n (write-steps (f .edition) a v (pages f i)) i
 
+-- a reading: refused, it has value 0
+unfoldable pub reading : (number value : ℕ) → Reading
+reading number v = record { number = number; value = cond (accepted number) v 0 }
+
 -- C17. Read: the value of the address.
 unfoldable pub read : (form : Form) (address : ℕ) → List ℕ → Reading
-read f a i =
-    let number = read-number f a i in
-    record { number = number; value = cond (accepted number) (or-value (value a (pages f i)) 0) 0 }
+read f a i = reading (read-number f a i) (or-value (value a (pages f i)) 0)
 
 -- C18. Blank read: 0 for an address that isn't held.
 unfoldable pub blank-value : Option ℕ → ℕ
 blank-value o = or-value o 0
 
 unfoldable pub blank-read : (form : Form) (address : ℕ) → List ℕ → Reading
-blank-read f a i =
-    let number = blank-read-number f a i in
-    record { number = number; value = cond (accepted number) (blank-value (value a (pages f i))) 0 }
+blank-read f a i = reading (blank-read-number f a i) (blank-value (value a (pages f i)))
 
 -- C19. Pairing lookup: the blank reads of 16 to 19 are the digits, and it is paired if all four are held, whatever their values.
 unfoldable pub code : (held : ℕ → Option ℕ) → List (Option ℕ)
