@@ -1,5 +1,6 @@
-/* calls CALL IMAGE ADDRESS TIMES: does the call TIMES times, each time on a fresh copy of the image in that file; a write
- * gives the address another value than it has. Prints the answer's number, then its steps or value.
+/* calls CALL IMAGE ADDRESS[,ADDRESS..] TIMES: does the call TIMES times, each time on a fresh copy of the image in that file;
+ * a write gives the first address another value than it has, a group write gives it to all. Prints the answer's number, then
+ * its steps or value.
  *
  * With `stack` for TIMES it does it once and prints, in third place, the bytes of stack that the call used, the return
  * address that x86-64 puts there included: the call runs on a stack of its own that was painted before, and how far down
@@ -17,6 +18,8 @@ typedef void function(void);
 static uint8_t image[ISTROVELL_PAGES_MAX * ISTROVELL_PAGE_SIZE];
 static uint8_t lent[sizeof image];
 static size_t length;
+static uint8_t group[3 * ISTROVELL_GROUP_MAX];
+static size_t group_length;
 
 /* A call, with what follows pointer and length. The answers, of at most 8 bytes, come back in one register. */
 struct call {
@@ -93,18 +96,31 @@ static void read_image(const char *name)
     fclose(file);
 }
 
+/* A setting for each address, with another value than it has. */
+static void make_group(char *addresses)
+{
+    for (char *word = strtok(addresses, ","); word != NULL && group_length < sizeof group; word = strtok(NULL, ",")) {
+        const uint16_t address = (uint16_t)atoi(word);
+        group[group_length++] = (uint8_t)(address & 255);
+        group[group_length++] = (uint8_t)(address >> 8);
+        group[group_length++] = istrovell_blank_read(image, length, address).value ^ 1;
+    }
+}
+
 int main(int count, char **words)
 {
     if (count != 5)
         return 2;
     read_image(words[2]);
-    const uint16_t address = (uint16_t)atoi(words[3]);
-    const uint8_t value = istrovell_blank_read(image, length, address).value ^ 1;
+    make_group(words[3]);
+    const uint16_t address = (uint16_t)(group[0] | group[1] << 8);
+    const uint8_t value = group[2];
     const uint64_t all = ISTROVELL_ALL_STEPS;
     const struct call calls[] = {
-        {"format", (function *)istrovell_format, {0}},
+        {"format", (function *)istrovell_format, {false}},
         {"recover", (function *)istrovell_recover, {all}},
         {"write", (function *)istrovell_write, {address, value, all}},
+        {"write_group", (function *)istrovell_write_group, {(uint64_t)group, group_length, all}},
         {"read", (function *)istrovell_read, {address}},
         {"blank_read", (function *)istrovell_blank_read, {address}},
         {"lookup", (function *)istrovell_lookup, {0}},
@@ -124,7 +140,8 @@ int main(int count, char **words)
             answer = plain(call);
         }
     }
-    const bool stepped = call->function == (function *)istrovell_recover || call->function == (function *)istrovell_write;
+    const bool stepped = call->function == (function *)istrovell_recover || call->function == (function *)istrovell_write ||
+                         call->function == (function *)istrovell_write_group;
     printf("%u %u %zu\n", (unsigned)(answer & 255), (unsigned)(stepped ? answer >> 16 & 65535 : answer >> 8 & 255), used);
     return 0;
 }

@@ -11,9 +11,11 @@ import sys
 PAGES = (2, 8, 32)
 HELD = 192
 SLOTS = 253
+GROUP = 4
 SEED = 1
-# The most that a call may cost beside a read of the same store.
+# The most that a call may cost beside another.
 LIMITS = {
+    "group write of four": ("plain write", 1.1),
     "write that moves": ("read", 1.6),
     "recovery of one page": ("read", 1.2),
     "recovery of lost wears": ("read beside lost wears", 1.2),
@@ -30,18 +32,18 @@ def record(address, value):
     return word(address | value << 16)
 
 
-def wear(count):
-    return word(count | 1 << 16)
+def wear(count, edition):
+    return word(count | edition << 16)
 
 
-def page(order, records):
-    content = wear(1 + order % 9) + word(order * 4 + 1) + b"\xff" * 4 + b"".join(records)
+def page(order, records, edition):
+    content = wear(1 + order % 9, edition) + word(order * 4 + 1) + b"\xff" * 4 + b"".join(records)
     return content + b"\xff" * (1024 - len(content))
 
 
-def full_store(pages):
+def full_store(pages, edition=1):
     """All pages but one full, 192 addresses held, each once to begin with and then at random; pages in random places. Gives
-    the pages, the places of the active and of the cleared one, and an address that is held."""
+    the pages, the places of the active and of the cleared one, and the addresses that are held."""
     dice = random.Random(SEED)
     pool = dice.sample(range(65535), HELD)
     named = (pool + [dice.choice(pool) for _ in range((pages - 1) * SLOTS)])[: (pages - 1) * SLOTS]
@@ -49,9 +51,9 @@ def full_store(pages):
     places = dice.sample(range(pages), pages)
     image = [b""] * pages
     for order in range(pages - 1):
-        image[places[order]] = page(order, records[order * SLOTS : (order + 1) * SLOTS])
-    image[places[-1]] = wear(3) + b"\xff" * 1020
-    return image, places[pages - 2], places[-1], pool[HELD // 2]
+        image[places[order]] = page(order, records[order * SLOTS : (order + 1) * SLOTS], edition)
+    image[places[-1]] = wear(3, edition) + b"\xff" * 1020
+    return image, places[pages - 2], places[-1], pool
 
 
 def address_in(content):
@@ -59,22 +61,29 @@ def address_in(content):
     return int.from_bytes(content[512:514], "little")
 
 
+def with_free_slots(image, place, count):
+    """The last slots of that page blank."""
+    content = image[place][: -4 * count] + b"\xff" * (4 * count)
+    return [content if other == place else page for other, page in enumerate(image)]
+
+
 def cases(pages):
-    """Name, call, image, address, and the answer that is expected: its number and, of a call in steps, its steps."""
-    image, active, cleared, address = full_store(pages)
-    with_a_free_slot = list(image)
-    with_a_free_slot[active] = image[active][:-4] + b"\xff" * 4
+    """Name, call, image, addresses, and the answer that is expected: its number and, of a call in steps, its steps."""
+    image, active, cleared, pool = full_store(pages)
+    second_edition = full_store(pages, 2)[0]
+    address, group = pool[HELD // 2], pool[HELD // 2 : HELD // 2 + GROUP]
     torn = list(image)
     torn[cleared] = image[cleared][:-1] + b"\x00"
     lost = [content if place == active else b"\xff" * 1024 for place, content in enumerate(image)]
     moved = 2 + 2 * HELD + 2 + 3 * (pages - 1)
     return [
-        ("read", "read", image, address, (0, None)),
-        ("plain write", "write", with_a_free_slot, address, (0, 2)),
-        ("write that moves", "write", image, address, (0, moved)),
-        ("recovery of one page", "recover", torn, address, (0, 3)),
-        ("read beside lost wears", "read", lost, address_in(image[active]), (0, None)),
-        ("recovery of lost wears", "recover", lost, address, (0, 3 * (pages - 1))),
+        ("read", "read", image, [address], (0, None)),
+        ("plain write", "write", with_free_slots(image, active, 1), [address], (0, 2)),
+        ("group write of four", "write_group", with_free_slots(second_edition, active, GROUP + 2), group, (0, 2 * GROUP + 4)),
+        ("write that moves", "write", image, [address], (0, moved)),
+        ("recovery of one page", "recover", torn, [address], (0, 3)),
+        ("read beside lost wears", "read", lost, [address_in(image[active])], (0, None)),
+        ("recovery of lost wears", "recover", lost, [address], (0, 3 * (pages - 1))),
     ]
 
 
@@ -92,16 +101,21 @@ def answer_of(done, expected):
     return stack
 
 
-def collected(program, call, image, address, expected, times):
+def words_of(call, image, addresses, times):
+    """The arguments of the program calls.c."""
+    return [call, image, ",".join(map(str, addresses)), str(times)]
+
+
+def collected(program, call, image, addresses, expected, times):
     words = ["valgrind", "--tool=callgrind", "--callgrind-out-file=/dev/null", f"--toggle-collect=istrovell_{call}"]
-    done = output(words + [program, call, image, str(address), str(times)])
+    done = output(words + [program] + words_of(call, image, addresses, times))
     answer_of(done, expected)
     return int(re.search(r"Collected : (\d+)", done.stderr).group(1))
 
 
-def instructions(program, call, image, address, expected):
+def instructions(program, call, image, addresses, expected):
     """Of the second of two calls: what only a first call does (a heap set up, say) is not counted."""
-    once, twice = (collected(program, call, image, address, expected, times) for times in (1, 2))
+    once, twice = (collected(program, call, image, addresses, expected, times) for times in (1, 2))
     return twice - once
 
 
@@ -115,11 +129,11 @@ def written(directory, name, pages):
 def measure_instructions(directory):
     counts = {}
     for pages in PAGES:
-        for name, call, image, address, expected in cases(pages):
+        for name, call, image, addresses, expected in cases(pages):
             path = written(directory, "image", image)
             for which in ("library", "second"):
                 program = os.path.join(directory, which)
-                counts[name, pages, which] = instructions(program, call, path, address, expected)
+                counts[name, pages, which] = instructions(program, call, path, addresses, expected)
             print(f"{name}, {pages} pages", file=sys.stderr)
     return counts
 
@@ -129,11 +143,11 @@ def measure_stack(directory):
     used = {}
     for pages in PAGES:
         found = cases(pages)
-        image, address = found[0][2:4]
-        others = [(call, call, image, address, (0, None)) for call in ("format", "blank_read", "lookup")]
-        for _, call, image, address, expected in found + others:
+        image, addresses = found[0][2:4]
+        others = [(call, call, image, addresses, (0, None)) for call in ("format", "blank_read", "lookup")]
+        for _, call, image, addresses, expected in found + others:
             path = written(directory, "image", image)
-            done = output([os.path.join(directory, "library"), call, path, str(address), "stack"])
+            done = output([os.path.join(directory, "library")] + words_of(call, path, addresses, "stack"))
             used[call, pages] = max(used.get((call, pages), 0), answer_of(done, expected))
     return used
 
@@ -155,16 +169,16 @@ def instruction_table(counts):
 
 def ratio_table(counts):
     rows = []
-    for name, (read, limit) in LIMITS.items():
-        ratios = [counts[name, pages, "library"] / counts[read, pages, "library"] for pages in PAGES]
+    for name, (other, limit) in LIMITS.items():
+        ratios = [counts[name, pages, "library"] / counts[other, pages, "library"] for pages in PAGES]
         kept = "yes" if max(ratios) <= limit else "NO"
-        rows.append([f"{name} / {read}", *(f"{ratio:.2f}" for ratio in ratios), f"{limit}", kept])
+        rows.append([f"{name} / {other}", *(f"{ratio:.2f}" for ratio in ratios), f"{limit}", kept])
     return table(["ratio", *(f"{pages} pages" for pages in PAGES), "at most", "kept"], rows)
 
 
 def stack_table(used):
     rows = []
-    for call in ("format", "recover", "write", "read", "blank_read", "lookup"):
+    for call in ("format", "recover", "write", "write_group", "read", "blank_read", "lookup"):
         depths = [used[call, pages] for pages in PAGES]
         kept = "yes" if max(depths) <= STACK_LIMIT else "NO"
         rows.append([f"`istrovell_{call}`", *(f"{depth:,}" for depth in depths), f"{STACK_LIMIT:,}", kept])
@@ -186,12 +200,13 @@ Made by `bench/run`, which writes this page. {machine}; {tools}.
 
 Counted by callgrind inside the exported function, in a second call, so that nothing is counted that only a first call
 does. {HELD} addresses are held, their records in random order (seed {SEED}); all pages but one are full, and the last slot
-is free for the plain write. Where wears are lost, every page but the active one is blank and so without a wear. `second` is
-the second implementation of `outside/`, in Rust, built for release: it is written to be clear, and not to be fast.
+is free for the plain write, the last {GROUP + 2} for the group write, which is of held addresses in a store of the second edition;
+all other stores are of the first. Where wears are lost, every page but the active one is blank and so without a wear. `second`
+is the second implementation of `outside/`, in Rust, built for release: it is written to be clear, and not to be fast.
 
 {instruction_table(counts)}
 
-## What a change costs beside a read of the same store
+## What a change costs beside another call
 
 {ratio_table(counts)}
 

@@ -1,7 +1,9 @@
 /* Istrovell: a settings store in flash that keeps its word when power fails.
  *
  * A setting is one byte at an address 0 to 65,534. At most 192 addresses are held. The store is an image of 2 to 32 pages
- * of 1,024 bytes, lent to each call by pointer and length.
+ * of 1,024 bytes, lent to each call by pointer and length. Its pages are of the first edition or of the second, which format
+ * is told; a store of the second can be written by groups, and everything else is alike. Every other call reads the edition
+ * off the image. Firmware that was built before there was a second edition answers ISTROVELL_NO_STORE to it.
  *
  * WHAT HOLDS OF EVERY CALL
  *   - Any length and any bytes are lawful input, and the pointer may have any alignment. A length that no store has
@@ -67,23 +69,25 @@ extern "C" {
 #define ISTROVELL_PAGES_MAX 32u       /* and at most */
 #define ISTROVELL_ADDRESS_MAX 65534u  /* the last address */
 #define ISTROVELL_HELD_MAX 192u       /* addresses held at a time, at most */
+#define ISTROVELL_GROUP_MAX 8u        /* settings of a group, at most */
 #define ISTROVELL_ALL_STEPS 65535u    /* an allowance that no call uses up */
 #define ISTROVELL_PAIRING_ADDRESS 16u /* the pairing code's four digits are here and at the three addresses after it */
 
-/* The answers by number. Where several would fit, the lowest is given. */
+/* The answers by number. Where several would fit, the first in this order is given: 1, 2, 3, 4, 9, 5, 6, 7, 8. */
 enum istrovell_number {
     ISTROVELL_OK = 0,        /* done, or stopped by the allowance */
     ISTROVELL_SIZE = 1,      /* the length is no multiple of 1,024, or not 2 to 32 pages */
     ISTROVELL_NO_STORE = 2,  /* no open page: never formatted, or no image of ours */
     ISTROVELL_DAMAGED = 3,   /* two used pages of one order, or every page used, or more than 192 addresses held */
-    ISTROVELL_UNCLEAN = 4,   /* a page neither used nor cleared: recover, then write again */
+    ISTROVELL_UNCLEAN = 4,   /* a page neither used nor cleared, or a group cut short: recover, then write again */
     ISTROVELL_ADDRESS = 5,   /* address 65,535 */
-    ISTROVELL_NO_ROOM = 6,   /* the address is not held, and 192 are */
+    ISTROVELL_NO_ROOM = 6,   /* with the addresses that are not held yet, more than 192 would be */
     ISTROVELL_ORDER_END = 7, /* a new page is needed and the active order is 4,194,303, the last */
-    ISTROVELL_NOT_HELD = 8   /* the address is not held */
+    ISTROVELL_NOT_HELD = 8,  /* the address is not held */
+    ISTROVELL_GROUP = 9      /* a group of other than 1 to 8 settings, or with an address twice, or a first-edition store */
 };
 
-/* The answer of recovery and write. */
+/* The answer of recovery and of both writes. */
 struct istrovell_stepped {
     uint8_t number; /* an enum istrovell_number */
     bool finished;  /* no step is left */
@@ -106,12 +110,15 @@ struct istrovell_pairing {
     uint8_t digit3;
 };
 
-/* Makes the image an empty store with wear 1 on every page, whatever it was. Every setting is lost.
+/* Makes the image an empty store of the second edition, or of the first, with wear 1 on every page, whatever it was. Every
+ * setting is lost.
  * Answers 0 or 1. */
-uint8_t istrovell_format(uint8_t *image, size_t length);
+uint8_t istrovell_format(uint8_t *image, size_t length, bool second_edition);
 
-/* Erases each page that is neither used nor cleared and programs its wear word, in 3 steps a page. No setting changes. The
- * wear is one more than the page's own or, if that is lost, than the greatest of all pages then; 65,535 at most.
+/* Ends a group that was cut short, by a mark in the next free slot, in 2 steps. Then erases each page that is neither used nor
+ * cleared and programs its wear word, in 3 steps a page. No setting changes. The wear is one more than the page's own or, if
+ * that is lost, than the greatest of all pages then; 65,535 at most. A page of the other edition than the store's is one of
+ * those pages, its wear lost.
  * Answers 0 to 3; 0 with finished false if the allowance ended it. */
 struct istrovell_stepped istrovell_recover(uint8_t *image, size_t length, uint16_t allowance);
 
@@ -123,6 +130,20 @@ struct istrovell_stepped istrovell_recover(uint8_t *image, size_t length, uint16
  * one as before or with the new value; once a step has made it new, a failure at a later step leaves it new. */
 struct istrovell_stepped istrovell_write(uint8_t *image, size_t length, uint16_t address, uint8_t value,
                                          uint16_t allowance);
+
+/* Puts the values of a group at its addresses, as one: a pairing code, say. `group` has three bytes for each setting: its
+ * address, low byte first, then its value; `group_length` counts these bytes, so it is 3, 6, up to 24. The addresses must
+ * differ. With length 0 the pointer is not followed and may be null. The bytes of the group are only read, and it must not
+ * lie in the image.
+ * If all addresses have their values already it takes 0 steps; else 4 + 2 for each setting, with a new page 2 more, or a move
+ * as istrovell_write does.
+ * Answers 0 to 7 and 9; a group whose values are all held is tested against 1 to 4, 9 and 5 only.
+ *
+ * If power fails in any step, and in any step of the recoveries after it, every other address reads as before, and those of
+ * the group all as before or all with the new values; once a step has made them new, a failure at a later step leaves them
+ * new. So a lookup gives the old code or the new one, never a mixture. */
+struct istrovell_stepped istrovell_write_group(uint8_t *image, size_t length, const uint8_t *group, size_t group_length,
+                                               uint16_t allowance);
 
 /* The value at the address. Answers 0, 1, 2, 3, 5 or 8. Recovery need not have run. */
 struct istrovell_reading istrovell_read(const uint8_t *image, size_t length, uint16_t address);

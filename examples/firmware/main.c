@@ -1,5 +1,6 @@
-/* A handset's life over a flash with a power switch: it is formatted and paired, used until its settings move to the only
- * cleared page, and power is cut in each step of that move. Ends with status 1 if anything was lost. */
+/* A handset's life over a flash with a power switch: it is formatted and paired, paired anew, and used until its settings
+ * move to the only cleared page. Power is cut in each step of the pairing and of the move. Ends with status 1 if anything
+ * was lost. */
 #include "settings.h"
 
 #include <stdio.h>
@@ -7,7 +8,7 @@
 enum { EMISSIVITY = 1, UNIT = 2, ALARM_LOW = 3, ALARM_HIGH = 4, BRIGHTNESS = 300, LAST_TARGET = 65534 };
 
 static const uint16_t kept[] = {EMISSIVITY, UNIT, ALARM_LOW, ALARM_HIGH, BRIGHTNESS, LAST_TARGET, 16, 17, 18, 19};
-static const uint8_t code[4] = {4, 2, 0, 7};
+static const uint8_t first_code[4] = {4, 2, 0, 7}, second_code[4] = {5, 2, 255, 8};
 #define KEPT (sizeof kept / sizeof kept[0])
 
 static unsigned faults;
@@ -25,17 +26,21 @@ static uint8_t get(const struct flash *chip, uint16_t address)
     return istrovell_read(chip->bytes, FLASH_BYTES, address).value;
 }
 
-static bool has_code(const struct flash *chip)
+static bool has_code(const struct flash *chip, const uint8_t code[4])
 {
     const struct istrovell_pairing found = istrovell_lookup(chip->bytes, FLASH_BYTES);
     return found.number == ISTROVELL_OK && found.paired && found.digit0 == code[0] && found.digit1 == code[1] &&
            found.digit2 == code[2] && found.digit3 == code[3];
 }
 
+static bool done(struct istrovell_stepped answer)
+{
+    return answer.number == ISTROVELL_OK && answer.finished;
+}
+
 static bool set(struct flash *chip, uint16_t address, uint8_t value)
 {
-    const struct istrovell_stepped answer = settings_set(chip, address, value);
-    return answer.number == ISTROVELL_OK && answer.finished && get(chip, address) == value;
+    return done(settings_set(chip, address, value)) && get(chip, address) == value;
 }
 
 /* From the factory to the first firing. */
@@ -48,35 +53,38 @@ static void set_up(struct flash *chip)
     expect(settings_format(chip), "the format", 0, 0);
     printf("new device: NO STORE; formatted, %u pages, %u steps\n", FLASH_PAGES, chip->steps);
     expect(settings_start(chip).finished, "the formatted store", 0, 0);
-    for (unsigned digit = 0; digit < 4; digit++)
-        expect(set(chip, (uint16_t)(ISTROVELL_PAIRING_ADDRESS + digit), code[digit]), "a digit", 0, 0);
+    expect(done(settings_pair(chip, first_code)) && has_code(chip, first_code), "the first pairing", 0, 0);
     expect(set(chip, EMISSIVITY, 95) && set(chip, UNIT, 1) && set(chip, ALARM_LOW, 40) && set(chip, ALARM_HIGH, 200) &&
                set(chip, BRIGHTNESS, 7) && set(chip, LAST_TARGET, 0),
            "a first setting", 0, 0);
-    expect(has_code(chip), "the pairing code", 0, 0);
-    printf("paired with %u %u %u %u, %zu settings held\n", code[0], code[1], code[2], code[3], KEPT);
+    printf("paired with %u %u %u %u, %zu settings held\n", first_code[0], first_code[1], first_code[2], first_code[3], KEPT);
 }
 
-/* How many steps this write would take: it is done on a copy. */
-static unsigned steps_of(const struct flash *chip, uint16_t address, uint8_t value)
+/* The two changes in which power is cut. */
+
+static bool pair_anew(struct flash *chip)
 {
-    struct flash copy = *chip;
-    return istrovell_write(copy.bytes, FLASH_BYTES, address, value, ISTROVELL_ALL_STEPS).steps;
+    return done(settings_pair(chip, second_code));
+}
+
+static bool next_target(struct flash *chip)
+{
+    return done(settings_set(chip, LAST_TARGET, (uint8_t)(get(chip, LAST_TARGET) % 250 + 1)));
 }
 
 /* Firing after firing, until the next change needs a move. */
-static unsigned use_until_move(struct flash *chip)
+static void use_until_move(struct flash *chip)
 {
     unsigned changes = 0;
-    uint8_t target = 1;
-    while (steps_of(chip, LAST_TARGET, target) <= 4) {
-        expect(set(chip, LAST_TARGET, target), "a change in use", 0, 0);
-        target = (uint8_t)(target % 250 + 1);
-        changes++;
+    for (;; changes++) {
+        struct flash copy = *chip;
+        flash_fail_at(&copy, 0, TEAR_NONE);
+        expect(next_target(&copy), "a change in use", 0, 0);
+        if (copy.steps > 4)
+            break;
+        *chip = copy;
     }
-    const unsigned steps = steps_of(chip, LAST_TARGET, target);
-    printf("used for %u changes; the next one moves all settings, in %u steps\n", changes, steps);
-    return steps;
+    printf("used for %u changes; the next one moves all settings\n", changes);
 }
 
 /* Start-up; power fails again in `cuts` of the recoveries. */
@@ -85,57 +93,67 @@ static unsigned start_again(struct flash *chip, unsigned cuts, unsigned step, un
     unsigned failed = 0;
     for (; cuts > 0; cuts--) {
         flash_power_on(chip);
-        flash_fail_at(chip, 1 + (step + cuts) % 9, (enum flash_tear)((tear + cuts) % FLASH_TEARS));
+        flash_fail_at(chip, 1 + (step + cuts) % (tear + 1), (enum flash_tear)((tear + cuts) % FLASH_TEARS));
         failed += !settings_start(chip).finished;
     }
     flash_power_on(chip);
     flash_fail_at(chip, 0, TEAR_NONE);
-    const struct istrovell_stepped answer = settings_start(chip);
-    expect(answer.number == ISTROVELL_OK && answer.finished, "the recovery", step, tear);
+    expect(done(settings_start(chip)), "the recovery", step, tear);
     return failed;
 }
 
-static void expect_all_kept(const struct flash *before, const struct flash *chip, unsigned step, unsigned tear)
+/* All settings, and the code that a lookup finds, are the same in both. */
+static bool same(const struct flash *one, const struct flash *other)
 {
-    expect(has_code(chip), "the pairing code", step, tear);
+    uint8_t code[4];
+    for (unsigned digit = 0; digit < 4; digit++)
+        code[digit] = get(other, (uint16_t)(ISTROVELL_PAIRING_ADDRESS + digit));
     for (size_t i = 0; i < KEPT; i++)
-        expect(kept[i] == LAST_TARGET || get(chip, kept[i]) == get(before, kept[i]), "a setting", step, tear);
+        if (get(one, kept[i]) != get(other, kept[i]))
+            return false;
+    return has_code(one, code);
 }
 
-/* Power fails in each step of the move in each way, and each time start-up has to find everything. */
-static void cut_everywhere(const struct flash *before, unsigned steps)
+/* Power fails in each step of the change in each way, and each time start-up has to find everything as before it or
+ * everything as after it, so that no code is ever found by half. The steps are those that the chip sees: the first half of a
+ * group's mark changes nothing. */
+static void cut_everywhere(const struct flash *before, bool (*change)(struct flash *), const char *what)
 {
-    const uint8_t old = get(before, LAST_TARGET), new = (uint8_t)(old % 250 + 1);
-    unsigned failures = 0, cut_recoveries = 0, left_old = 0, left_new = 0, first_new = steps + 1;
-    for (unsigned step = 1; step <= steps; step++) {
+    struct flash after = *before;
+    flash_fail_at(&after, 0, TEAR_NONE);
+    expect(change(&after), what, 0, 0);
+    unsigned failures = 0, cut_recoveries = 0, left_old = 0, left_new = 0, first_new = after.steps + 1;
+    for (unsigned step = 1; step <= after.steps; step++) {
         for (unsigned tear = 0; tear < FLASH_TEARS; tear++) {
             struct flash chip = *before;
             flash_fail_at(&chip, step, (enum flash_tear)tear);
-            expect(!settings_set(&chip, LAST_TARGET, new).finished, "power did not fail", step, tear);
+            expect(!change(&chip), "power did not fail", step, tear);
             cut_recoveries += start_again(&chip, (step + tear) % 3, step, tear);
             failures++;
-            expect_all_kept(before, &chip, step, tear);
-            const uint8_t now = get(&chip, LAST_TARGET);
-            expect(now == old || now == new, "the changed setting", step, tear);
-            expect(now == new || step <= first_new, "old again after new", step, tear);
-            left_old += now == old;
-            left_new += now == new;
-            if (now == new && step < first_new)
+            const bool old = same(&chip, before), new = same(&chip, &after);
+            expect(old || new, what, step, tear);
+            expect(new || step <= first_new, "old again after new", step, tear);
+            left_old += old;
+            left_new += new;
+            if (new && step < first_new)
                 first_new = step;
-            expect(set(&chip, LAST_TARGET, new) && set(&chip, BRIGHTNESS, 9), "a change afterwards", step, tear);
+            expect(change(&chip) && set(&chip, BRIGHTNESS, 9), "a change afterwards", step, tear);
         }
     }
-    printf("power cut in each of the %u steps, %u ways each: %u failures, and %u in the recoveries after them\n", steps,
-           FLASH_TEARS, failures, cut_recoveries);
-    printf("the changed setting: %u times old, %u times new, new from step %u on\n", left_old, left_new, first_new);
+    printf("power cut in each of the %u steps of %s, %u ways each: %u failures, and %u in the recoveries after them\n",
+           after.steps, what, FLASH_TEARS, failures, cut_recoveries);
+    printf("  %u times all as before, %u times all new, new from step %u on\n", left_old, left_new, first_new);
 }
 
 int main(void)
 {
     struct flash chip;
     set_up(&chip);
-    const unsigned steps = use_until_move(&chip);
-    cut_everywhere(&chip, steps);
+    cut_everywhere(&chip, pair_anew, "a pairing");
+    expect(pair_anew(&chip) && has_code(&chip, second_code), "the second pairing", 0, 0);
+    use_until_move(&chip);
+    cut_everywhere(&chip, next_target, "the move");
+    expect(has_code(&chip, second_code), "the pairing code", 0, 0);
     printf("pairing code and all other settings: %s\n", faults == 0 ? "kept every time" : "LOST");
     return faults == 0 ? 0 : 1;
 }

@@ -4,9 +4,12 @@
 #include <stdlib.h>
 #include <string.h>
 
+/* One setting, or a group of them. */
 struct change {
     uint16_t address;
     uint8_t value;
+    const uint8_t *group; /* null for one setting; else three bytes for each: its address, low byte first, and its value */
+    size_t group_length;  /* in bytes */
 };
 
 /* The two copies in RAM. */
@@ -42,6 +45,8 @@ static struct istrovell_stepped call(const struct change *change, uint16_t allow
     memcpy(work, start, FLASH_BYTES);
     if (change == NULL)
         return istrovell_recover(work, FLASH_BYTES, allowance);
+    if (change->group != NULL)
+        return istrovell_write_group(work, FLASH_BYTES, change->group, change->group_length, allowance);
     return istrovell_write(work, FLASH_BYTES, change->address, change->value, allowance);
 }
 
@@ -68,7 +73,20 @@ struct istrovell_stepped settings_start(struct flash *chip)
 
 struct istrovell_stepped settings_set(struct flash *chip, uint16_t address, uint8_t value)
 {
-    const struct change change = {address, value};
+    const struct change change = {.address = address, .value = value};
+    return carry_all(chip, &change);
+}
+
+struct istrovell_stepped settings_pair(struct flash *chip, const uint8_t code[4])
+{
+    uint8_t group[4 * 3];
+    for (unsigned digit = 0; digit < 4; digit++) {
+        const unsigned address = ISTROVELL_PAIRING_ADDRESS + digit;
+        group[3 * digit] = (uint8_t)(address & 255);
+        group[3 * digit + 1] = (uint8_t)(address >> 8);
+        group[3 * digit + 2] = code[digit];
+    }
+    const struct change change = {.group = group, .group_length = sizeof group};
     return carry_all(chip, &change);
 }
 
@@ -81,7 +99,7 @@ static bool program_word(struct flash *chip, size_t offset)
 
 bool settings_format(struct flash *chip)
 {
-    istrovell_format(work, FLASH_BYTES);
+    istrovell_format(work, FLASH_BYTES, true);
     for (size_t page = 0; page < FLASH_PAGES; page++) {
         if (!flash_erase(chip, page) || !program_word(chip, page * FLASH_PAGE_BYTES))
             return false;

@@ -8,6 +8,10 @@ use crate::steps::*;
 use crate::word::*;
 use crate::{Pairing, Reading, Second, Stepped, Store};
 
+mod groups;
+
+pub use groups::{WrongGroup, WRONG_GROUPS};
+
 #[derive(Clone, Copy, Debug, PartialEq, Eq)]
 pub enum Broken {
     /// A move erases the old pages before it programs the done word.
@@ -48,8 +52,8 @@ pub const WRONG_WEARS: [Broken; 5] = [
 ];
 
 impl Plan for Broken {
-    fn format_steps(&self, image: &[u8]) -> Result<Vec<Step>, u8> {
-        Ok(self.rechecked(format_steps(image)?))
+    fn format_steps(&self, image: &[u8], edition: Edition) -> Result<Vec<Step>, u8> {
+        Ok(self.rechecked(format_steps(image, edition)?))
     }
 
     fn recovery_steps(&self, image: &[u8]) -> Result<Vec<Step>, u8> {
@@ -57,15 +61,18 @@ impl Plan for Broken {
         Ok(self.reworn(&seen, self.rechecked(recovery_steps(&seen)?)))
     }
 
-    fn write_steps(&self, image: &[u8], address: u16, value: u8) -> Result<Vec<Step>, u8> {
+    fn change_steps(&self, image: &[u8], change: &Change) -> Result<Vec<Step>, u8> {
         let seen = self.seen(image);
-        let steps = self.rechecked(write_steps(&seen, address, value)?);
-        let old = held(&seen).get(&address).copied();
-        Ok(match (self, old) {
+        let steps = self.rechecked(change_steps(&seen, change)?);
+        let single = match *change {
+            Change::Single((address, value)) => Some((address, value, held(&seen).get(&address).copied())),
+            Change::Group(_) => None,
+        };
+        Ok(match (self, single) {
             (Broken::EraseFirst, _) => erase_first(steps),
-            (Broken::OldAfterNew, Some(old)) => old_after_new(&seen, steps, address, old),
-            (Broken::Wavering, Some(old)) => wavering(steps, address, old, value),
-            (Broken::FirstBlankSlot, _) => first_blank_slot(&seen, steps, address, value),
+            (Broken::OldAfterNew, Some((address, _, Some(old)))) => old_after_new(&seen, steps, address, old),
+            (Broken::Wavering, Some((address, value, Some(old)))) => wavering(steps, address, old, value),
+            (Broken::FirstBlankSlot, Some((address, value, _))) => first_blank_slot(&seen, steps, address, value),
             _ => self.reworn(&seen, steps),
         })
     }
@@ -87,8 +94,8 @@ impl Plan for Broken {
 
 type Check = fn([u8; 3]) -> u8;
 
-/// The wear that a page gets, by the image at the call and the image just before its erase.
-type WearRule = fn(&[u8], &[u8], usize) -> u16;
+/// The wear that a page gets, by the image at the call, the image just before its erase, and the edition.
+type WearRule = fn(&[u8], &[u8], Edition, usize) -> u16;
 
 impl Broken {
     fn wrong_check(self) -> Option<Check> {
@@ -101,16 +108,18 @@ impl Broken {
 
     fn wrong_wear(self) -> Option<WearRule> {
         match self {
-            Broken::LostWearIsOne => Some(|_, now, page| wear(page_at(now, page)).unwrap_or(0).saturating_add(1)),
-            Broken::GreatestAtTheCall => Some(|at_call, _, page| next_wear(at_call, page)),
-            Broken::GreatestOfUsedPages => Some(|_, now, page| {
-                let used = used_pages(now).into_iter().filter_map(|used| wear(page_at(now, used.page)));
-                wear(page_at(now, page)).or(used.max()).unwrap_or(0).saturating_add(1)
-            }),
-            Broken::GreatestForEveryPage => Some(|_, now, _| greatest_wear(now).saturating_add(1)),
-            Broken::WearWraps => {
-                Some(|_, now, page| wear(page_at(now, page)).unwrap_or_else(|| greatest_wear(now)).wrapping_add(1))
+            Broken::LostWearIsOne => {
+                Some(|_, now, edition, page| wear(page_at(now, page), edition).unwrap_or(0).saturating_add(1))
             }
+            Broken::GreatestAtTheCall => Some(|at_call, _, edition, page| next_wear(at_call, edition, page)),
+            Broken::GreatestOfUsedPages => Some(|_, now, edition, page| {
+                let used = used_pages(now).into_iter().filter_map(|used| wear(page_at(now, used.page), edition));
+                wear(page_at(now, page), edition).or(used.max()).unwrap_or(0).saturating_add(1)
+            }),
+            Broken::GreatestForEveryPage => Some(|_, now, edition, _| greatest_wear(now, edition).saturating_add(1)),
+            Broken::WearWraps => Some(|_, now, edition, page| {
+                wear(page_at(now, page), edition).unwrap_or_else(|| greatest_wear(now, edition)).wrapping_add(1)
+            }),
             _ => None,
         }
     }
@@ -149,7 +158,7 @@ fn old_after_new(image: &[u8], steps: Vec<Step>, address: u16, old: u8) -> Vec<S
     let copied = held(image).len();
     let (page, _) = cleared_pages(image)[0];
     let (to_new, rest) = steps.split_at(2 + 2 * copied);
-    [to_new, &record_steps(page, copied, address, old), rest].concat()
+    [to_new, &slot_steps(page, copied, record(address, old)), rest].concat()
 }
 
 fn wavering(steps: Vec<Step>, address: u16, old: u8, new: u8) -> Vec<Step> {
@@ -168,14 +177,15 @@ fn first_blank_slot(image: &[u8], steps: Vec<Step>, address: u16, value: u8) -> 
     let active = active_page(image).page;
     let blank = (0..SLOTS).find(|&slot| is_blank(slot_word(page_at(image, active), slot)));
     match blank {
-        Some(slot) if !steps.is_empty() => record_steps(active, slot, address, value).to_vec(),
+        Some(slot) if !steps.is_empty() => slot_steps(active, slot, record(address, value)).to_vec(),
         _ => steps,
     }
 }
 
 fn add_done_words(image: &mut [u8]) {
+    let edition = edition(image);
     for page in image.chunks_mut(PAGE_BYTES) {
-        if state(page) == State::Receiving {
+        if state(page, edition) == State::Receiving {
             let (order, _) = order_and_kind_in(word_at(page, OPENING_OFFSET)).expect("a receiving page has an order");
             page[DONE_OFFSET..DONE_OFFSET + 4].copy_from_slice(&done_word(order));
         }
@@ -183,8 +193,9 @@ fn add_done_words(image: &mut [u8]) {
 }
 
 fn make_all_plain(image: &mut [u8]) {
+    let edition = edition(image);
     for page in image.chunks_mut(PAGE_BYTES) {
-        if let State::Open { order, .. } = state(page) {
+        if let State::Open { order, .. } = state(page, edition) {
             page[OPENING_OFFSET..OPENING_OFFSET + 4].copy_from_slice(&order_word(order, PLAIN));
         }
     }
@@ -218,10 +229,11 @@ fn with_check(mut steps: Vec<Step>, check: Check) -> Vec<Step> {
 
 /// The two steps of a wear word follow the erase in the list.
 fn with_wears(image: &[u8], mut steps: Vec<Step>, rule: WearRule) -> Vec<Step> {
+    let edition = edition(image);
     let mut now = image.to_vec();
     for at in 0..steps.len() {
         if let Step::Erase { page } = steps[at] {
-            let word = wear_word(rule(image, &now, page));
+            let word = wear_word(rule(image, &now, edition, page), edition);
             steps[at + 1..at + 3].copy_from_slice(&program_word_steps(page * PAGE_BYTES + WEAR_OFFSET, word));
         }
         do_step(&mut now, steps[at]);
@@ -229,18 +241,29 @@ fn with_wears(image: &[u8], mut steps: Vec<Step>, rule: WearRule) -> Vec<Step> {
     steps
 }
 
-/// A write that does all its steps at allowance 1.
+/// A write, or a group write, that does all its steps at allowance 1.
 pub struct Eager;
 
+fn eagerly(allowance: u16) -> u16 {
+    if allowance == 1 {
+        u16::MAX
+    } else {
+        allowance
+    }
+}
+
 impl Store for Eager {
-    fn format(&self, image: &mut [u8]) -> u8 {
-        Second.format(image)
+    fn format(&self, image: &mut [u8], edition: Edition) -> u8 {
+        Second.format(image, edition)
     }
     fn recover(&self, image: &mut [u8], allowance: u16) -> Stepped {
         Second.recover(image, allowance)
     }
     fn write(&self, image: &mut [u8], address: u16, value: u8, allowance: u16) -> Stepped {
-        Second.write(image, address, value, if allowance == 1 { u16::MAX } else { allowance })
+        Second.write(image, address, value, eagerly(allowance))
+    }
+    fn write_group(&self, image: &mut [u8], group: &[u8], allowance: u16) -> Stepped {
+        Second.write_group(image, group, eagerly(allowance))
     }
     fn read(&self, image: &[u8], address: u16) -> Reading {
         Second.read(image, address)
@@ -316,8 +339,8 @@ impl WrongPairing {
 }
 
 impl Store for WrongPairing {
-    fn format(&self, image: &mut [u8]) -> u8 {
-        Second.format(image)
+    fn format(&self, image: &mut [u8], edition: Edition) -> u8 {
+        Second.format(image, edition)
     }
     fn recover(&self, image: &mut [u8], allowance: u16) -> Stepped {
         Second.recover(image, allowance)
@@ -326,6 +349,9 @@ impl Store for WrongPairing {
         let idle = *self == WrongPairing::BlankIsHeld && Second.blank_read(image, address).value == value;
         let answer = Second.write(image, address, value, if idle { 0 } else { allowance });
         Stepped { finished: answer.finished || idle && answer.number == OK, ..answer }
+    }
+    fn write_group(&self, image: &mut [u8], group: &[u8], allowance: u16) -> Stepped {
+        Second.write_group(image, group, allowance)
     }
     fn read(&self, image: &[u8], address: u16) -> Reading {
         Second.read(image, address)
@@ -362,6 +388,16 @@ pub enum WrongListing {
     FourthByteTells,
     /// A sound slot with address 65,535 doesn't count as spoiled.
     NoAddressIsSound,
+    /// Every sound slot with address 65,535 counts as spoiled, as before wish 4.
+    MarksAreSpoiled,
+    /// The marks of a store of the first edition don't count as spoiled.
+    MarksInBothEditions,
+    /// A mark that opens inside a group doesn't count as spoiled.
+    NestedIsAMark,
+    /// A mark that closes or abandons outside a group counts as spoiled.
+    EndOutsideIsSpoiled,
+    /// The records of a group that don't count are counted as spoiled.
+    OthersOfAGroup,
     /// The slots of all open pages count.
     EveryOpenPage,
     /// The slots of the active page count, and of no other.
@@ -374,13 +410,18 @@ pub enum WrongListing {
     CountsWrap,
 }
 
-pub const WRONG_LISTINGS: [WrongListing; 11] = [
+pub const WRONG_LISTINGS: [WrongListing; 16] = [
     WrongListing::HalfIsSpoiledToo,
     WrongListing::HalfIsSpoiled,
     WrongListing::BlankIsHalf,
     WrongListing::ThirdByteTells,
     WrongListing::FourthByteTells,
     WrongListing::NoAddressIsSound,
+    WrongListing::MarksAreSpoiled,
+    WrongListing::MarksInBothEditions,
+    WrongListing::NestedIsAMark,
+    WrongListing::EndOutsideIsSpoiled,
+    WrongListing::OthersOfAGroup,
     WrongListing::EveryOpenPage,
     WrongListing::ActivePageAlone,
     WrongListing::HeaderWordsToo,
@@ -394,10 +435,11 @@ impl WrongListing {
     }
 
     fn broken_words(self, image: &[u8]) -> (usize, usize) {
+        let edition = edition(image);
         let pages = self.pages(image).into_iter().map(|page| page_at(image, page));
-        let conditions: Vec<Condition> = pages.flat_map(|page| self.conditions(page)).collect();
-        let count = |wanted| conditions.iter().filter(|&&condition| condition == wanted).count();
-        let (half, spoiled) = (count(Condition::HalfWritten), count(Condition::Spoiled));
+        let slots: Vec<Slot> = pages.flat_map(|page| self.slots(page, edition)).collect();
+        let count = |wanted| slots.iter().filter(|&&slot| slot == wanted).count();
+        let (half, spoiled) = (count(Slot::HalfWritten), count(Slot::Spoiled));
         match self {
             WrongListing::HalfIsSpoiledToo => (half, half + spoiled),
             WrongListing::HalfIsSpoiled => (0, half + spoiled),
@@ -408,33 +450,65 @@ impl WrongListing {
 
     fn pages(self, image: &[u8]) -> Vec<usize> {
         match self {
-            WrongListing::EveryOpenPage => (0..page_count(image))
-                .filter(|&page| matches!(state(page_at(image, page)), State::Open { .. }))
-                .collect(),
+            WrongListing::EveryOpenPage => {
+                (0..page_count(image)).filter(|&page| matches!(states(image)[page], State::Open { .. })).collect()
+            }
             WrongListing::ActivePageAlone => vec![active_page(image).page],
             _ => used_pages(image).into_iter().map(|used| used.page).collect(),
         }
     }
 
-    fn conditions(self, page: &[u8]) -> Vec<Condition> {
-        let slots = (0..SLOTS).map(|slot| slot_word(page, slot));
-        let header = [WEAR_OFFSET, OPENING_OFFSET, DONE_OFFSET].map(|offset| condition(word_at(page, offset)));
+    /// What stands in the slots that are counted, by the wrong rule.
+    fn slots(self, page: &[u8], edition: Edition) -> Vec<Slot> {
+        let right = slots_in_place(page, edition);
         match self {
-            WrongListing::HeaderWordsToo => header.into_iter().chain(slots.map(slot_condition)).collect(),
-            WrongListing::UpToTheFirstBlank => slots.take_while(|&word| !is_blank(word)).map(slot_condition).collect(),
-            _ => slots.map(|word| self.slot_condition(word)).collect(),
+            WrongListing::HeaderWordsToo => header_slots(page).into_iter().chain(right).collect(),
+            WrongListing::UpToTheFirstBlank => right.into_iter().take_while(|&slot| slot != Slot::Blank).collect(),
+            WrongListing::MarksInBothEditions => slots_in_place(page, Edition::Second),
+            WrongListing::EndOutsideIsSpoiled => ends_outside_spoiled(right),
+            WrongListing::OthersOfAGroup => others_spoiled(right),
+            _ => (0..SLOTS).map(|slot| self.slot(right[slot], slot_word(page, slot), edition)).collect(),
         }
     }
 
-    fn slot_condition(self, word: Word) -> Condition {
-        match (self, slot_condition(word)) {
-            (WrongListing::BlankIsHalf, Condition::Blank) => Condition::HalfWritten,
-            (WrongListing::ThirdByteTells, Condition::Spoiled) if word[2] == 255 && !is_sound(word) => {
-                Condition::HalfWritten
-            }
-            (WrongListing::FourthByteTells, Condition::Spoiled) if word[3] == 255 => Condition::HalfWritten,
-            (WrongListing::NoAddressIsSound, _) => condition(word),
-            (_, condition) => condition,
+    fn slot(self, right: Slot, word: Word, edition: Edition) -> Slot {
+        match (self, right) {
+            (WrongListing::BlankIsHalf, Slot::Blank) => Slot::HalfWritten,
+            (WrongListing::ThirdByteTells, Slot::Spoiled) if word[2] == 255 && !is_sound(word) => Slot::HalfWritten,
+            (WrongListing::FourthByteTells, Slot::Spoiled) if word[3] == 255 => Slot::HalfWritten,
+            (WrongListing::NoAddressIsSound, Slot::Spoiled) if is_sound(word) => Slot::Mark(Mark::Abandons),
+            (WrongListing::NestedIsAMark, Slot::Spoiled) => slot_in(word, edition),
+            (WrongListing::MarksAreSpoiled, Slot::Mark(_)) => Slot::Spoiled,
+            (_, right) => right,
         }
     }
+}
+
+/// The header words, as if they were slots; a sound one is none that is counted.
+fn header_slots(page: &[u8]) -> [Slot; 3] {
+    [WEAR_OFFSET, OPENING_OFFSET, DONE_OFFSET].map(|offset| match condition(word_at(page, offset)) {
+        Condition::HalfWritten => Slot::HalfWritten,
+        Condition::Spoiled => Slot::Spoiled,
+        Condition::Sound | Condition::Blank => Slot::Blank,
+    })
+}
+
+fn ends_outside_spoiled(mut slots: Vec<Slot>) -> Vec<Slot> {
+    let ends: Vec<Option<usize>> = groups(&slots).iter().map(|group| group.end).collect();
+    for (place, slot) in slots.iter_mut().enumerate() {
+        if matches!(slot, Slot::Mark(Mark::Closes(_) | Mark::Abandons)) && !ends.contains(&Some(place)) {
+            *slot = Slot::Spoiled;
+        }
+    }
+    slots
+}
+
+fn others_spoiled(mut slots: Vec<Slot>) -> Vec<Slot> {
+    for group in groups(&slots) {
+        if !group.counts(&slots) {
+            let records = slots[group.inside()].iter_mut().filter(|slot| matches!(slot, Slot::Record { .. }));
+            records.for_each(|slot| *slot = Slot::Spoiled);
+        }
+    }
+    slots
 }

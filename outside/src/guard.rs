@@ -1,10 +1,10 @@
-//! An image lent between unreadable pages: a store that touches a byte before or after it dies at once.
+//! An image, and a group, lent between unreadable pages: a store that touches a byte before or after it dies at once.
 
 use std::cell::RefCell;
 use std::ffi::{c_int, c_void};
 use std::sync::atomic::{AtomicU64, Ordering};
 
-use crate::{Pairing, Reading, Stepped, Store};
+use crate::{Edition, Pairing, Reading, Stepped, Store};
 
 extern "C" {
     fn mmap(
@@ -36,7 +36,7 @@ const MOST_BYTES: usize = 64 * 1024;
 const FENCE: u8 = 0xA7;
 const FENCE_BYTES: usize = 64;
 
-/// Which guard the image touches.
+/// Which guard the image, and the group, touches.
 #[derive(Clone, Copy, Debug, PartialEq, Eq)]
 pub enum Place {
     AfterStartGuard,
@@ -85,6 +85,25 @@ impl Region {
             }
         }
     }
+
+    /// Lends the call a copy of the bytes, between the guards, and takes back what it made of them.
+    fn lend_copy<A>(&mut self, bytes: &mut [u8], place: Place, call: impl FnOnce(&mut [u8]) -> A) -> A {
+        let (lent, fence) = self.lend(bytes.len(), place);
+        lent.copy_from_slice(bytes);
+        fence.fill(FENCE);
+        let answer = call(lent);
+        assert!(fence.iter().all(|&byte| byte == FENCE), "a byte beside the lent ones was changed");
+        bytes.copy_from_slice(lent);
+        answer
+    }
+
+    /// For bytes that are only to be read: not even a library that casts the const away may change one.
+    fn show_copy<A>(&mut self, bytes: &[u8], place: Place, call: impl FnOnce(&[u8]) -> A) -> A {
+        let mut copy = bytes.to_vec();
+        let answer = self.lend_copy(&mut copy, place, |lent| call(lent));
+        assert!(copy == bytes, "bytes that are only to be read were changed");
+        answer
+    }
 }
 
 impl Drop for Region {
@@ -94,48 +113,44 @@ impl Drop for Region {
     }
 }
 
-/// A store whose every call gets the image between guards, at the place named.
+/// A store whose every call gets the image, and the group, between guards, at the place named.
 pub struct Guarded<S> {
     store: S,
     place: Place,
-    region: RefCell<Region>,
+    for_images: RefCell<Region>,
+    for_groups: RefCell<Region>,
 }
 
 impl<S: Store> Guarded<S> {
     pub fn new(store: S, place: Place) -> Guarded<S> {
         report_the_seed_on_a_fault();
-        Guarded { store, place, region: RefCell::new(Region::new()) }
+        let [for_images, for_groups] = [Region::new(), Region::new()].map(RefCell::new);
+        Guarded { store, place, for_images, for_groups }
     }
 
     fn call<A>(&self, image: &mut [u8], call: impl FnOnce(&S, &mut [u8]) -> A) -> A {
-        let mut region = self.region.borrow_mut();
-        let (lent, fence) = region.lend(image.len(), self.place);
-        lent.copy_from_slice(image);
-        fence.fill(FENCE);
-        let answer = call(&self.store, lent);
-        assert!(fence.iter().all(|&byte| byte == FENCE), "a byte beside the image was changed");
-        image.copy_from_slice(lent);
-        answer
+        self.for_images.borrow_mut().lend_copy(image, self.place, |lent| call(&self.store, lent))
     }
 
-    /// For the calls that only read: not even a library that casts the const away may change a byte.
     fn look<A>(&self, image: &[u8], call: impl FnOnce(&S, &[u8]) -> A) -> A {
-        let mut copy = image.to_vec();
-        let answer = self.call(&mut copy, |store, lent| call(store, lent));
-        assert!(copy == image, "a call that only reads changed the image");
-        answer
+        self.for_images.borrow_mut().show_copy(image, self.place, |lent| call(&self.store, lent))
     }
 }
 
 impl<S: Store> Store for Guarded<S> {
-    fn format(&self, image: &mut [u8]) -> u8 {
-        self.call(image, |store, lent| store.format(lent))
+    fn format(&self, image: &mut [u8], edition: Edition) -> u8 {
+        self.call(image, |store, lent| store.format(lent, edition))
     }
     fn recover(&self, image: &mut [u8], allowance: u16) -> Stepped {
         self.call(image, |store, lent| store.recover(lent, allowance))
     }
     fn write(&self, image: &mut [u8], address: u16, value: u8, allowance: u16) -> Stepped {
         self.call(image, |store, lent| store.write(lent, address, value, allowance))
+    }
+    fn write_group(&self, image: &mut [u8], group: &[u8], allowance: u16) -> Stepped {
+        self.for_groups.borrow_mut().show_copy(group, self.place, |group| {
+            self.call(image, |store, lent| store.write_group(lent, group, allowance))
+        })
     }
     fn read(&self, image: &[u8], address: u16) -> Reading {
         self.look(image, |store, lent| store.read(lent, address))
@@ -164,7 +179,7 @@ fn report_the_seed_on_a_fault() {
 }
 
 extern "C" fn on_fault(_signal: c_int) {
-    let mut text = *b"\nmemory outside the image was touched, seed                      \n";
+    let mut text = *b"\nmemory outside the lent bytes was touched, seed                      \n";
     let mut seed = SEED.load(Ordering::Relaxed);
     let mut end = text.len() - 1;
     loop {

@@ -6,7 +6,7 @@ use crate::rng::Rng;
 use crate::rules::*;
 use crate::steps::*;
 use crate::word::*;
-use crate::{format, recover, write};
+use crate::{format, recover, write, write_group};
 
 const WRONG_LENGTHS: [usize; 17] =
     [0, 1, 2, 3, 512, 1023, 1024, 1025, 2047, 2049, 3071, 3073, 32_767, 32_769, 33_792, 34_816, 65_536];
@@ -17,16 +17,21 @@ const HELD_COUNTS: [usize; 12] = [0, 1, 2, 5, 20, 60, 191, 192, 192, 193, 194, 2
 pub fn image(seed: u64) -> Vec<u8> {
     let mut rng = Rng::new(seed);
     let rng = &mut rng;
-    match rng.below(100) {
+    let mut image = match rng.below(100) {
         0..=24 => worn(rng),
         25..=29 => paired(rng),
         30..=61 => sensible(rng),
         62..=66 => worn_unevenly(rng),
-        67..=79 => wild(rng),
+        67..=77 => wild(rng),
+        78..=79 => of_two_editions(rng),
         80..=89 => flipped(rng),
         90..=94 => random_bytes(rng),
         _ => wrong_length(rng),
+    };
+    if rng.one_in(10) {
+        mix_editions(&mut image, rng);
     }
+    image
 }
 
 /// Small stores most often, because they are fast.
@@ -74,20 +79,37 @@ fn another_value(held: Option<u8>, rng: &mut Rng) -> u8 {
     }
 }
 
+/// How many settings to write as a group: often as many as just fit into these free slots, or just don't.
+pub fn some_group_size(free: usize, rng: &mut Rng) -> usize {
+    match free {
+        1..=10 if !rng.one_in(4) => (free + 1).saturating_sub(rng.below(4)).clamp(1, MOST_IN_A_GROUP),
+        _ => 1 + rng.below(MOST_IN_A_GROUP),
+    }
+}
+
+/// So many settings of different addresses of the pool, or fewer if it has fewer.
+pub fn some_group(pool: &[u16], count: usize, rng: &mut Rng) -> Vec<Setting> {
+    let mut addresses = pool.to_vec();
+    rng.shuffle(&mut addresses);
+    addresses.truncate(count);
+    addresses.into_iter().map(|address| (address, some_value(rng))).collect()
+}
+
 // Worn stores: what our own calls leave, with failing steps among them.
 
 fn worn(rng: &mut Rng) -> Vec<u8> {
     let pages = some_page_count(rng);
     let mut image = vec![rng.byte(); pages * PAGE_BYTES];
-    format(&mut image);
+    let edition = rng.pick(&EDITIONS);
+    format(&mut image, edition);
     let count = rng.pick(&[2, 5, 12, 40, 192]);
     let pool = some_addresses(rng, count);
     for _ in 0..1 + rng.below(pages + 4) {
-        let count = if rng.one_in(3) { rng.below(SLOTS) } else { SLOTS - rng.below(3) };
+        let count = if rng.one_in(3) { rng.below(SLOTS) } else { SLOTS - rng.below(12) };
         fill_active(&mut image, count, &pool, rng);
         for _ in 0..1 + rng.below(3) {
-            let write = (rng.pick(&pool), some_value(rng));
-            if !troubled_write(&mut image, write, rng) {
+            let change = some_change(&image, &pool, rng);
+            if !troubled_change(&mut image, &change, rng) {
                 return image;
             }
         }
@@ -95,25 +117,42 @@ fn worn(rng: &mut Rng) -> Vec<u8> {
     image
 }
 
-/// What `count` writes to the pool's addresses would do, as far as the active page has room. Each write changes the
-/// value, because a write of the held value takes no slot.
+/// A single setting or, in the second edition, most often a group.
+pub fn some_change(image: &[u8], pool: &[u16], rng: &mut Rng) -> Change {
+    if edition(image) == Edition::First || rng.one_in(4) {
+        return Change::Single((rng.pick(pool), some_value(rng)));
+    }
+    let free = free_slots(page_at(image, active_page(image).page)).len();
+    let count = some_group_size(free, rng);
+    Change::Group(some_group(pool, count, rng))
+}
+
+/// What writes to the pool's addresses would do with `count` slots, as far as the active page has room; groups are among
+/// them in the second edition. Each changes a value, because a write of held values takes no slot.
 pub fn fill_active(image: &mut [u8], count: usize, pool: &[u16], rng: &mut Rng) {
     let mut values = held(image);
+    let has_groups = edition(image) == Edition::Second;
     let active = active_page(image).page;
-    let free = free_slot(page_at(image, active)).unwrap_or(SLOTS);
-    for slot in free..SLOTS.min(free + count) {
-        let address = rng.pick(pool);
-        let value = another_value(values.get(&address).copied(), rng);
-        values.insert(address, value);
-        for step in record_steps(active, slot, address, value) {
-            do_step(image, step);
-        }
+    let mut free = free_slots(page_at(image, active));
+    free.end = SLOTS.min(free.start + count);
+    while !free.is_empty() {
+        let grouped = has_groups && rng.one_in(20);
+        let count = 1 + rng.below(MOST_IN_A_GROUP);
+        let mut settings = if grouped { some_group(pool, count, rng) } else { vec![(rng.pick(pool), 0)] };
+        let (address, value) = &mut settings[0];
+        *value = another_value(values.get(address).copied(), rng);
+        let (single, group) = (Change::Single(settings[0]), Change::Group(settings));
+        let change = if grouped && group.words().len() <= free.len() { group } else { single };
+        let steps = slots_steps(active, free.start, &change.words());
+        steps.iter().for_each(|&step| do_step(image, step));
+        free.start += change.words().len();
+        values.extend(change.settings().iter().copied());
     }
 }
 
-/// A write in which power may fail, and recoveries in which it may. False if the image was left unrecovered.
-fn troubled_write(image: &mut [u8], (address, value): (u16, u8), rng: &mut Rng) -> bool {
-    let Ok(steps) = write_steps(image, address, value) else {
+/// A change in which power may fail, and recoveries in which it may. False if the image was left unrecovered.
+fn troubled_change(image: &mut [u8], change: &Change, rng: &mut Rng) -> bool {
+    let Ok(steps) = change_steps(image, change) else {
         return false;
     };
     if rng.one_in(2) || steps.is_empty() {
@@ -137,9 +176,17 @@ fn paired(rng: &mut Rng) -> Vec<u8> {
     let mut image = worn(rng);
     let any = some_value(rng);
     let usual = rng.pick(&[0, 255, any]);
+    let mut code = Vec::new();
     for address in 16..20 {
         let digit = if rng.one_in(8) { some_value(rng) } else { usual };
         if !rng.one_in(6) {
+            code.push((address, digit));
+        }
+    }
+    if edition(&image) == Edition::Second && rng.one_in(2) {
+        write_group(&mut image, &group_bytes(&code), u16::MAX);
+    } else {
+        for (address, digit) in code {
             write(&mut image, address, digit, u16::MAX);
         }
     }
@@ -152,7 +199,7 @@ fn cut(image: &mut [u8], steps: &[Step], at: usize, rng: &mut Rng) {
     fail_somehow(image, steps[at], rng);
 }
 
-// Crafted pages.
+// Crafted pages. They are made in the first edition and then, as often as not, put into the second.
 
 fn put(page: &mut [u8], offset: usize, word: Word) {
     page[offset..offset + 4].copy_from_slice(&word);
@@ -160,7 +207,7 @@ fn put(page: &mut [u8], offset: usize, word: Word) {
 
 fn cleared_page(rng: &mut Rng) -> Vec<u8> {
     let mut page = vec![255; PAGE_BYTES];
-    put(&mut page, WEAR_OFFSET, wear_word(rng.pick(&WEARS)));
+    put(&mut page, WEAR_OFFSET, wear_word(rng.pick(&WEARS), Edition::First));
     page
 }
 
@@ -220,23 +267,141 @@ fn half_written_word(word: Word) -> Word {
     [word[0], word[1], 255, 255]
 }
 
-/// What stands in a slot that no address of the pool has to have.
-fn filler_word(pool: &[u16], rng: &mut Rng) -> Word {
-    let address = if pool.is_empty() { NO_ADDRESS } else { rng.pick(pool) };
-    let value = some_value(rng);
-    match rng.below(20) {
-        0 => record(NO_ADDRESS, value),
-        1 | 2 => torn_word(record(address, value), rng),
-        3 => BLANK,
-        4 => half_written_word(record(address, value)),
-        _ => record(address, value),
+/// The pages in the first edition, or in the second: then those that were to be of the second are of the first.
+fn in_some_edition(pages: Vec<Vec<u8>>, rng: &mut Rng) -> Vec<u8> {
+    let mut image = pages.concat();
+    if rng.one_in(2) {
+        swap_editions(&mut image);
+    }
+    image
+}
+
+fn swap_editions(image: &mut [u8]) {
+    for page in image.chunks_exact_mut(PAGE_BYTES) {
+        let [first, second] = EDITIONS.map(|edition| wear(page, edition));
+        if let Some(wear) = first {
+            put(page, WEAR_OFFSET, wear_word(wear, Edition::Second));
+        } else if let Some(wear) = second {
+            put(page, WEAR_OFFSET, wear_word(wear, Edition::First));
+        }
     }
 }
 
-fn fill_slots(page: &mut [u8], count: usize, pool: &[u16], rng: &mut Rng) {
-    for slot in 0..count {
-        put(page, slot_offset(slot), filler_word(pool, rng));
+/// Gives some of the wear words another third byte: often the other edition's.
+fn mix_editions(image: &mut [u8], rng: &mut Rng) {
+    for page in image.chunks_exact_mut(PAGE_BYTES) {
+        let [low, high, third, _] = word_at(page, WEAR_OFFSET);
+        if is_sound(word_at(page, WEAR_OFFSET)) && rng.one_in(3) {
+            let other = if rng.one_in(4) { rng.pick(&[0, 3, 255]) } else { third ^ 3 };
+            put(page, WEAR_OFFSET, sound_word([low, high, other]));
+        }
     }
+}
+
+fn pool_record(pool: &[u16], rng: &mut Rng) -> Word {
+    if pool.is_empty() {
+        return no_mark(rng);
+    }
+    record(rng.pick(pool), some_value(rng))
+}
+
+/// A sound word with address 65,535 and a value that no mark has.
+fn no_mark(rng: &mut Rng) -> Word {
+    let low = 9 + rng.below(120) as u8;
+    let high = 137 + rng.below(119) as u8;
+    record(NO_ADDRESS, rng.pick(&[9, 128, 137, 255, low, high]))
+}
+
+/// What stands in a slot that no address of the pool has to have.
+fn filler_word(pool: &[u16], rng: &mut Rng) -> Word {
+    match rng.below(20) {
+        0 => no_mark(rng),
+        1 | 2 => torn_word(pool_record(pool, rng), rng),
+        3 => BLANK,
+        4 => half_written_word(pool_record(pool, rng)),
+        _ => pool_record(pool, rng),
+    }
+}
+
+fn some_size(rng: &mut Rng) -> u8 {
+    1 + rng.below(MOST_IN_A_GROUP) as u8
+}
+
+/// A group that counts or, as often, one that something is wrong with.
+fn group_words(pool: &[u16], rng: &mut Rng) -> Vec<Word> {
+    let size = some_size(rng);
+    let opens = mark_word(Mark::Opens(size));
+    let mut inside: Vec<Word> = (0..size).map(|_| pool_record(pool, rng)).collect();
+    let mut end = vec![mark_word(Mark::Closes(size))];
+    let place = rng.below(inside.len());
+    match rng.below(20) {
+        0 => end = vec![mark_word(Mark::Closes(some_size(rng)))],
+        1 => drop(inside.pop()),
+        2 => inside.push(pool_record(pool, rng)),
+        3 => inside[place] = broken_word(pool, rng),
+        4 => inside.insert(place, broken_word(pool, rng)),
+        5 => inside.push(broken_word(pool, rng)),
+        6 => {
+            inside.truncate(place + rng.below(2));
+            end = vec![mark_word(Mark::Abandons)];
+        }
+        7 => inside.insert(place, mark_word(Mark::Opens(some_size(rng)))),
+        8 => inside[place] = mark_word(Mark::Opens(some_size(rng))),
+        9 => end.clear(),
+        10 => return vec![rng.pick(&[mark_word(Mark::Abandons), end[0]])],
+        _ => {}
+    }
+    [vec![opens], inside, end].concat()
+}
+
+/// What is no record: spoiled, half-written or blank, or with a value that no mark has.
+fn broken_word(pool: &[u16], rng: &mut Rng) -> Word {
+    match rng.below(4) {
+        0 => torn_word(pool_record(pool, rng), rng),
+        1 => half_written_word(pool_record(pool, rng)),
+        2 => BLANK,
+        _ => no_mark(rng),
+    }
+}
+
+/// The beginning of a group, as far as a cut or a full page lets it come.
+fn begun_group(pool: &[u16], rng: &mut Rng) -> Vec<Word> {
+    let size = some_size(rng);
+    let mut words = vec![mark_word(Mark::Opens(size))];
+    words.extend((0..rng.below(usize::from(size) + 1)).map(|_| pool_record(pool, rng)));
+    words.extend((0..rng.below(3)).map(|_| broken_word(pool, rng)));
+    words
+}
+
+/// Fills the slots before `count`. Some pages have no group, some have few and some many; now and then one is open at the
+/// end.
+fn fill_slots(page: &mut [u8], count: usize, pool: &[u16], rng: &mut Rng) {
+    let rarity = rng.pick(&[None, None, Some(80), Some(15)]);
+    let mut words = Vec::new();
+    while words.len() < count {
+        match rarity {
+            Some(rarity) if rng.one_in(rarity) => words.extend(group_words(pool, rng)),
+            _ => words.push(filler_word(pool, rng)),
+        }
+    }
+    words.truncate(count);
+    let begun = begun_group(pool, rng);
+    if begun.len() <= count && rng.one_in(6) {
+        words.splice(count - begun.len().., begun);
+    }
+    for (slot, word) in words.into_iter().enumerate() {
+        put(page, slot_offset(slot), word);
+    }
+}
+
+/// The slots of a page, of these first ones, in which a record counts in either edition.
+fn counting_slots(page: &[u8], count: usize) -> Vec<usize> {
+    let slots = slots(page, Edition::Second);
+    let groups = groups(&slots);
+    let is_free = |&slot: &usize| {
+        !matches!(slots[slot], Slot::Mark(_)) && !groups.iter().any(|group| group.inside().contains(&slot))
+    };
+    (0..count).filter(is_free).collect()
 }
 
 /// A store as the rules want it, but with orders, wears, counts and other pages at their ends.
@@ -250,7 +415,7 @@ fn sensible(rng: &mut Rng) -> Vec<u8> {
         all.push(if rng.one_in(4) { other_page(orders[0], based, rng) } else { cleared_page(rng) });
     }
     rng.shuffle(&mut all);
-    all.concat()
+    in_some_edition(all, rng)
 }
 
 fn rising_orders(count: usize, rng: &mut Rng) -> Vec<u32> {
@@ -275,9 +440,13 @@ fn used_pages_of(orders: &[u32], based: bool, rng: &mut Rng) -> Vec<Vec<u8>> {
     for (index, &order) in orders.iter().enumerate() {
         let kind = if index == 0 && based || rng.one_in(30) { RECEIVING } else { PLAIN };
         let mut page = open_page(order, kind, rng);
-        let count = if rng.one_in(4) { rng.pick(&[0, 1, 100, 251, 252]) } else { SLOTS };
+        let count = match rng.below(8) {
+            0 => rng.pick(&[0, 1, 100]),
+            1 | 2 => SLOTS - 1 - rng.below(12),
+            _ => SLOTS,
+        };
         fill_slots(&mut page, count, &pool, rng);
-        places.extend((0..count).map(|slot| (index, slot)));
+        places.extend(counting_slots(&page, count).into_iter().map(|slot| (index, slot)));
         all.push(page);
     }
     rng.shuffle(&mut places);
@@ -322,7 +491,7 @@ fn unworn_page(rng: &mut Rng) -> Vec<u8> {
         0 => page.fill(255),
         1 => page.fill(0),
         2 => put(&mut page, WEAR_OFFSET, BLANK),
-        _ => put(&mut page, WEAR_OFFSET, sound_word([1, 0, rng.byte() & 2])),
+        _ => put(&mut page, WEAR_OFFSET, sound_word([1, 0, rng.pick(&[0, 2, 3, 255])])),
     }
     page
 }
@@ -363,19 +532,19 @@ fn worn_unevenly(rng: &mut Rng) -> Vec<u8> {
     }
     let greatest = rng.pick(&[0, 7, 258, 65_532, 65_533, 65_534, 65_535]);
     for page in &mut all {
-        if let Some(wear) = wear(page) {
-            put(page, WEAR_OFFSET, wear_word(wear.min(greatest)));
+        if let Some(wear) = wear(page, Edition::First) {
+            put(page, WEAR_OFFSET, wear_word(wear.min(greatest), Edition::First));
         }
     }
     rng.shuffle(&mut all);
-    all.concat()
+    in_some_edition(all, rng)
 }
 
 /// Pages that know nothing of each other: equal orders, no open page, every page used.
 fn wild(rng: &mut Rng) -> Vec<u8> {
     let pages = some_page_count(rng);
     let pool = some_addresses(rng, 30);
-    let mut image = Vec::new();
+    let mut all = Vec::new();
     for _ in 0..pages {
         let order = some_order(rng);
         let count = rng.below(SLOTS + 1);
@@ -386,12 +555,34 @@ fn wild(rng: &mut Rng) -> Vec<u8> {
             6 => receiving_page(rng),
             _ => bad_page(rng),
         };
-        if matches!(state(&page), State::Open { .. }) {
+        if open_by_itself(&page).is_some() {
             fill_slots(&mut page, count, &pool, rng);
         }
-        image.extend(page);
+        all.push(page);
     }
-    image
+    in_some_edition(all, rng)
+}
+
+/// A store whose edition is that of an old page, in front of an open page of the other edition. While a recovery renews the
+/// one and then the other, the lowest open page is of the other edition.
+fn of_two_editions(rng: &mut Rng) -> Vec<u8> {
+    let pages = 4 + rng.below(4);
+    let used = 1 + rng.below(pages - 3);
+    let mut orders = rising_orders(used, rng);
+    if orders[0] == 0 {
+        orders.iter_mut().for_each(|order| *order += 1);
+    }
+    let mut others = used_pages_of(&orders, true, rng);
+    while others.len() < pages - 2 {
+        others.push(cleared_page(rng));
+    }
+    rng.shuffle(&mut others);
+    let old_order = rng.below(orders[0] as usize) as u32;
+    let old = open_page(old_order, PLAIN, rng);
+    let order = some_order(rng);
+    let mut of_other = open_page(order, PLAIN, rng);
+    put(&mut of_other, WEAR_OFFSET, wear_word(rng.pick(&WEARS), Edition::Second));
+    in_some_edition([vec![old, of_other], others].concat(), rng)
 }
 
 /// A good image with a few bits flipped, in the headers most often.
@@ -408,20 +599,20 @@ fn flipped(rng: &mut Rng) -> Vec<u8> {
 fn random_bytes(rng: &mut Rng) -> Vec<u8> {
     let length = some_page_count(rng) * PAGE_BYTES;
     let manner = rng.below(3);
-    let mut image: Vec<u8> =
+    let image: Vec<u8> =
         (0..length).map(|_| if manner == 1 { rng.byte() | rng.byte() | rng.byte() } else { rng.byte() }).collect();
-    if manner == 2 {
-        // Random slots under sound headers.
-        for page in image.chunks_mut(PAGE_BYTES) {
-            let order = some_order(rng);
-            let header = open_page(order, PLAIN, rng);
-            page[..12].copy_from_slice(&header[..12]);
-        }
-        let last = image.len() - PAGE_BYTES;
-        let cleared = cleared_page(rng);
-        image[last..].copy_from_slice(&cleared);
+    if manner != 2 {
+        return image;
     }
-    image
+    // Random slots under sound headers.
+    let mut pages: Vec<Vec<u8>> = image.chunks(PAGE_BYTES).map(<[u8]>::to_vec).collect();
+    for page in &mut pages {
+        let order = some_order(rng);
+        page[..12].copy_from_slice(&open_page(order, PLAIN, rng)[..12]);
+    }
+    pages.pop();
+    pages.push(cleared_page(rng));
+    in_some_edition(pages, rng)
 }
 
 /// A good image cut or lengthened to a length that no store has.

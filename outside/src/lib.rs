@@ -1,16 +1,17 @@
 //! A second settings store, written from the rules in words, which docs/FORMAT.md restates, and not from the definitions:
-//! clear and literal rather than fast. It counts the 0 bits of a byte; the library looks them up, a half at a time.
+//! clear and literal rather than fast. It counts the 0 bits of a word; the library looks them up, half a byte at a time.
 //!
 //! The rules are in `word` (four bytes), `page` (1,024 bytes) and `rules` (a whole image). The calls are there twice:
 //! `second` does them on the image as it goes, `steps` lists the steps beforehand. The rest serves the tests: `images`
-//! makes images from seeds, `failing` makes steps fail, `guard` lends an image between unreadable pages, and `broken`
-//! has stores and listings that the tests must catch.
+//! makes images from seeds, `cases` tells what they have, `failing` makes steps fail, `guard` lends an image and a group
+//! between unreadable pages, and `broken` has stores and listings that the tests must catch.
 //!
 //! `cargo test --release` tests the second implementation against itself; `ISTROVELL_LIB=directory cargo test --release
 //! --features library` tests the library `libistrovell.a` of that directory against it. ISTROVELL_IMAGES says how many
 //! images `compare` tries; ISTROVELL_SEED runs one seed again, for instance with `--test compare both -- --nocapture`.
 
 pub mod broken;
+pub mod cases;
 pub mod failing;
 pub mod guard;
 pub mod images;
@@ -23,8 +24,10 @@ pub mod second;
 pub mod steps;
 pub mod word;
 
-pub use second::{blank_read, format, listing, lookup, read, recover, write, Second};
-pub use steps::{do_step, fail_step, format_steps, recovery_steps, write_steps, Plan, Step, Stepwise};
+pub use rules::{Change, Setting};
+pub use second::{blank_read, format, listing, lookup, read, recover, write, write_group, Second};
+pub use steps::{change_steps, do_step, fail_step, format_steps, recovery_steps, Plan, Step, Stepwise};
+pub use word::Edition;
 
 /// The answer of read and blank read.
 #[derive(Clone, Copy, Debug, PartialEq, Eq)]
@@ -33,7 +36,7 @@ pub struct Reading {
     pub value: u8,
 }
 
-/// The answer of recovery and write.
+/// The answer of recovery and of both writes.
 #[derive(Clone, Copy, Debug, PartialEq, Eq)]
 pub struct Stepped {
     pub number: u8,
@@ -67,12 +70,22 @@ impl Pairing {
     }
 }
 
-/// The six calls. Every test driver takes any `Store`.
+/// The seven calls. Every test driver takes any `Store`.
 pub trait Store {
-    fn format(&self, image: &mut [u8]) -> u8;
+    fn format(&self, image: &mut [u8], edition: Edition) -> u8;
     fn recover(&self, image: &mut [u8], allowance: u16) -> Stepped;
     fn write(&self, image: &mut [u8], address: u16, value: u8, allowance: u16) -> Stepped;
+    /// `group` has three bytes for each setting: its address, low byte first, then its value.
+    fn write_group(&self, image: &mut [u8], group: &[u8], allowance: u16) -> Stepped;
     fn read(&self, image: &[u8], address: u16) -> Reading;
     fn blank_read(&self, image: &[u8], address: u16) -> Reading;
     fn lookup(&self, image: &[u8]) -> Pairing;
+
+    /// The write or the group write that makes this change.
+    fn change(&self, image: &mut [u8], change: &Change, allowance: u16) -> Stepped {
+        match change {
+            &Change::Single((address, value)) => self.write(image, address, value, allowance),
+            Change::Group(settings) => self.write_group(image, &rules::group_bytes(settings), allowance),
+        }
+    }
 }

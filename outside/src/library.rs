@@ -1,6 +1,6 @@
 //! The library under test, through its C exports.
 
-use crate::{Pairing, Reading, Stepped, Store};
+use crate::{Edition, Pairing, Reading, Stepped, Store};
 
 #[repr(C)]
 struct CReading {
@@ -26,9 +26,16 @@ struct CPairing {
 }
 
 extern "C" {
-    fn istrovell_format(image: *mut u8, length: usize) -> u8;
+    fn istrovell_format(image: *mut u8, length: usize, second_edition: bool) -> u8;
     fn istrovell_recover(image: *mut u8, length: usize, allowance: u16) -> CStepped;
     fn istrovell_write(image: *mut u8, length: usize, address: u16, value: u8, allowance: u16) -> CStepped;
+    fn istrovell_write_group(
+        image: *mut u8,
+        length: usize,
+        group: *const u8,
+        group_length: usize,
+        allowance: u16,
+    ) -> CStepped;
     fn istrovell_read(image: *const u8, length: usize, address: u16) -> CReading;
     fn istrovell_blank_read(image: *const u8, length: usize, address: u16) -> CReading;
     fn istrovell_lookup(image: *const u8, length: usize) -> CPairing;
@@ -37,16 +44,21 @@ extern "C" {
 #[derive(Clone, Copy, Debug, Default)]
 pub struct Library;
 
-// SAFETY of every call below: pointer and length are those of a slice that lives through the call.
+// SAFETY of every call below: pointer and length are those of a slice that lives through the call, and of two slices neither
+// lies in the other.
 impl Store for Library {
-    fn format(&self, image: &mut [u8]) -> u8 {
-        unsafe { istrovell_format(image.as_mut_ptr(), image.len()) }
+    fn format(&self, image: &mut [u8], edition: Edition) -> u8 {
+        unsafe { istrovell_format(image.as_mut_ptr(), image.len(), edition == Edition::Second) }
     }
     fn recover(&self, image: &mut [u8], allowance: u16) -> Stepped {
         stepped(unsafe { istrovell_recover(image.as_mut_ptr(), image.len(), allowance) })
     }
     fn write(&self, image: &mut [u8], address: u16, value: u8, allowance: u16) -> Stepped {
         stepped(unsafe { istrovell_write(image.as_mut_ptr(), image.len(), address, value, allowance) })
+    }
+    fn write_group(&self, image: &mut [u8], group: &[u8], allowance: u16) -> Stepped {
+        let (bytes, length) = (group.as_ptr(), group.len());
+        stepped(unsafe { istrovell_write_group(image.as_mut_ptr(), image.len(), bytes, length, allowance) })
     }
     fn read(&self, image: &[u8], address: u16) -> Reading {
         reading(unsafe { istrovell_read(image.as_ptr(), image.len(), address) })

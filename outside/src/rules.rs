@@ -1,4 +1,4 @@
-//! What an image says (base order, used pages, active page, values) and when a call refuses it.
+//! What an image says (edition, base order, used pages, active page, values) and when a call refuses it.
 
 use std::collections::BTreeMap;
 
@@ -14,6 +14,7 @@ pub const ADDRESS: u8 = 5;
 pub const NO_ROOM: u8 = 6;
 pub const ORDER_END: u8 = 7;
 pub const NOT_HELD: u8 = 8;
+pub const GROUP: u8 = 9;
 
 pub const MOST_HELD: usize = 192;
 
@@ -24,6 +25,67 @@ pub struct Used {
     pub order: u32,
 }
 
+/// An address with a value.
+pub type Setting = (u16, u8);
+
+/// What a write or a group write is to put into the store.
+#[derive(Clone, Debug, PartialEq, Eq)]
+pub enum Change {
+    Single(Setting),
+    Group(Vec<Setting>),
+}
+
+impl Change {
+    /// The group in these bytes, three for each setting. Of a length that 3 doesn't divide it has no settings.
+    pub fn group(bytes: &[u8]) -> Change {
+        if !bytes.len().is_multiple_of(3) {
+            return Change::Group(Vec::new());
+        }
+        Change::Group(
+            bytes.chunks(3).map(|setting| (u16::from_le_bytes([setting[0], setting[1]]), setting[2])).collect(),
+        )
+    }
+
+    pub fn settings(&self) -> &[Setting] {
+        match self {
+            Change::Single(setting) => std::slice::from_ref(setting),
+            Change::Group(settings) => settings,
+        }
+    }
+
+    pub fn settings_mut(&mut self) -> &mut [Setting] {
+        match self {
+            Change::Single(setting) => std::slice::from_mut(setting),
+            Change::Group(settings) => settings,
+        }
+    }
+
+    pub fn names(&self, address: u16) -> bool {
+        self.settings().iter().any(|&(named, _)| named == address)
+    }
+
+    pub fn records(&self) -> Vec<Word> {
+        self.settings().iter().map(|&(address, value)| record(address, value)).collect()
+    }
+
+    /// What is programmed where there are slots enough: the records, and those of a group between two marks.
+    pub fn words(&self) -> Vec<Word> {
+        let records = self.records();
+        match self {
+            Change::Single(_) => records,
+            Change::Group(settings) => {
+                let count = settings.len() as u8;
+                [vec![mark_word(Mark::Opens(count))], records, vec![mark_word(Mark::Closes(count))]].concat()
+            }
+        }
+    }
+}
+
+/// The bytes in which a group is lent.
+pub fn group_bytes(settings: &[Setting]) -> Vec<u8> {
+    settings.iter().flat_map(|&(address, value)| [address as u8, (address >> 8) as u8, value]).collect()
+}
+
 pub fn page_count(image: &[u8]) -> usize {
     image.len() / PAGE_BYTES
 }
@@ -32,8 +94,14 @@ pub fn page_at(image: &[u8], page: usize) -> &[u8] {
     &image[page * PAGE_BYTES..(page + 1) * PAGE_BYTES]
 }
 
+/// The edition of the page of lowest index that is open by itself. All pages are read by it.
+pub fn edition(image: &[u8]) -> Edition {
+    image.chunks_exact(PAGE_BYTES).find_map(open_by_itself).unwrap_or(Edition::First)
+}
+
 pub fn states(image: &[u8]) -> Vec<State> {
-    (0..page_count(image)).map(|page| state(page_at(image, page))).collect()
+    let edition = edition(image);
+    image.chunks_exact(PAGE_BYTES).map(|page| state(page, edition)).collect()
 }
 
 /// The greatest order of an open page of kind 2, or 0 if there is none.
@@ -66,14 +134,14 @@ pub fn active_page(image: &[u8]) -> Used {
     used_pages(image)[0]
 }
 
-/// The value in the last sound slot that names the address: from the last slot of the active page back, then through
-/// the used pages of falling order.
+/// The value in the last record that counts and names the address: from the last slot of the active page back, then
+/// through the used pages of falling order.
 pub fn value(image: &[u8], address: u16) -> Option<u8> {
+    let edition = edition(image);
     for used in used_pages(image) {
-        for slot in (0..SLOTS).rev() {
-            match record_in(slot_word(page_at(image, used.page), slot)) {
-                Some((named, value)) if named == address => return Some(value),
-                _ => {}
+        for (named, value) in records(page_at(image, used.page), edition).into_iter().rev() {
+            if named == address {
+                return Some(value);
             }
         }
     }
@@ -82,26 +150,43 @@ pub fn value(image: &[u8], address: u16) -> Option<u8> {
 
 /// Every held address with its value. Going forward, a later record replaces an earlier one.
 pub fn held(image: &[u8]) -> BTreeMap<u16, u8> {
+    let edition = edition(image);
     let mut held = BTreeMap::new();
     for used in used_pages(image).iter().rev() {
-        for slot in 0..SLOTS {
-            if let Some((address, value)) = record_in(slot_word(page_at(image, used.page), slot)) {
-                held.insert(address, value);
-            }
-        }
+        held.extend(records(page_at(image, used.page), edition));
     }
     held
 }
 
+/// How many addresses are held, without their values: every call but format asks for it.
+fn held_count(image: &[u8]) -> usize {
+    let edition = edition(image);
+    let mut is_held = vec![false; 65_536];
+    let mut count = 0;
+    for used in used_pages(image) {
+        for (address, _) in records(page_at(image, used.page), edition) {
+            count += usize::from(!is_held[usize::from(address)]);
+            is_held[usize::from(address)] = true;
+        }
+    }
+    count
+}
+
+/// Whether each address of the change has its value already.
+pub fn is_held(image: &[u8], change: &Change) -> bool {
+    change.settings().iter().all(|&(address, new)| value(image, address) == Some(new))
+}
+
 /// How many slots of the used pages are half-written, and how many are spoiled.
 pub fn broken_words(image: &[u8]) -> (usize, usize) {
+    let edition = edition(image);
     let (mut half, mut spoiled) = (0, 0);
     for used in used_pages(image) {
-        for slot in 0..SLOTS {
-            match slot_condition(slot_word(page_at(image, used.page), slot)) {
-                Condition::Sound | Condition::Blank => {}
-                Condition::HalfWritten => half += 1,
-                Condition::Spoiled => spoiled += 1,
+        for slot in slots_in_place(page_at(image, used.page), edition) {
+            match slot {
+                Slot::HalfWritten => half += 1,
+                Slot::Spoiled => spoiled += 1,
+                Slot::Record { .. } | Slot::Mark(_) | Slot::Blank => {}
             }
         }
     }
@@ -119,7 +204,7 @@ pub fn cleared_pages(image: &[u8]) -> Vec<(usize, u16)> {
     cleared
 }
 
-/// The pages that are neither used nor cleared, by index: those that recovery treats.
+/// The pages that are neither used nor cleared, by index: those that recovery renews.
 pub fn unclean_pages(image: &[u8]) -> Vec<usize> {
     let used = used_pages(image);
     let cleared = cleared_pages(image);
@@ -128,15 +213,23 @@ pub fn unclean_pages(image: &[u8]) -> Vec<usize> {
     (0..page_count(image)).filter(|&page| !is_used(page) && !is_cleared(page)).collect()
 }
 
-/// The greatest sound wear word in the image, whatever its page; 0 if there is none.
-pub fn greatest_wear(image: &[u8]) -> u16 {
-    image.chunks_exact(PAGE_BYTES).filter_map(wear).max().unwrap_or(0)
+/// Page and slot for the mark that abandons: the free slot of the active page, if that has an open group and a free slot.
+pub fn slot_to_abandon(image: &[u8]) -> Option<(usize, usize)> {
+    let active = active_page(image).page;
+    let page = page_at(image, active);
+    let free = free_slots(page);
+    (has_open_group(page, edition(image)) && !free.is_empty()).then_some((active, free.start))
 }
 
-/// The wear that a page gets if it is erased now: one more than its own, and without a sound wear word one more than the
-/// greatest in the image, at most 65,535.
-pub fn next_wear(image: &[u8], page: usize) -> u16 {
-    wear(page_at(image, page)).unwrap_or_else(|| greatest_wear(image)).saturating_add(1)
+/// The greatest wear in the image, whatever its page; 0 if there is none.
+pub fn greatest_wear(image: &[u8], edition: Edition) -> u16 {
+    image.chunks_exact(PAGE_BYTES).filter_map(|page| wear(page, edition)).max().unwrap_or(0)
+}
+
+/// The wear that a page gets if it is erased now: one more than its own, and if it has none one more than the greatest in
+/// the image, at most 65,535. The edition is that of the store at the call.
+pub fn next_wear(image: &[u8], edition: Edition, page: usize) -> u16 {
+    wear(page_at(image, page), edition).unwrap_or_else(|| greatest_wear(image, edition)).saturating_add(1)
 }
 
 /// Test 1.
@@ -157,8 +250,31 @@ pub fn test_store(image: &[u8]) -> Result<(), u8> {
     }
     let two_of_one_order = used.windows(2).any(|pair| pair[0].order == pair[1].order);
     let every_page_used = used.len() == page_count(image);
-    if two_of_one_order || every_page_used || held(image).len() > MOST_HELD {
+    if two_of_one_order || every_page_used || held_count(image) > MOST_HELD {
         return Err(DAMAGED);
+    }
+    Ok(())
+}
+
+/// Test 4.
+fn test_clean(image: &[u8]) -> Result<(), u8> {
+    if !unclean_pages(image).is_empty() || slot_to_abandon(image).is_some() {
+        return Err(UNCLEAN);
+    }
+    Ok(())
+}
+
+/// Test 9, which a single setting passes.
+pub fn test_group(image: &[u8], change: &Change) -> Result<(), u8> {
+    let Change::Group(settings) = change else {
+        return Ok(());
+    };
+    let repeated = settings
+        .iter()
+        .enumerate()
+        .any(|(place, &(address, _))| settings[..place].iter().any(|&(earlier, _)| earlier == address));
+    if edition(image) == Edition::First || !(1..=MOST_IN_A_GROUP).contains(&settings.len()) || repeated {
+        return Err(GROUP);
     }
     Ok(())
 }
@@ -171,22 +287,24 @@ pub fn test_address(address: u16) -> Result<(), u8> {
     Ok(())
 }
 
-/// Tests 1 to 7. A write of the held value is tested against 1 to 5 only.
-pub fn test_write(image: &[u8], address: u16, value: u8) -> Result<(), u8> {
+/// Tests 1 to 7, and 9 behind 4. A change whose values are all held is not tested for 6 and 7.
+pub fn test_change(image: &[u8], change: &Change) -> Result<(), u8> {
     test_store(image)?;
-    if !unclean_pages(image).is_empty() {
-        return Err(UNCLEAN);
+    test_clean(image)?;
+    test_group(image, change)?;
+    for &(address, _) in change.settings() {
+        test_address(address)?;
     }
-    test_address(address)?;
     let held = held(image);
-    if held.get(&address) == Some(&value) {
+    if change.settings().iter().all(|(address, value)| held.get(address) == Some(value)) {
         return Ok(());
     }
-    if !held.contains_key(&address) && held.len() == MOST_HELD {
+    let new = change.settings().iter().filter(|(address, _)| !held.contains_key(address)).count();
+    if held.len() + new > MOST_HELD {
         return Err(NO_ROOM);
     }
     let active = active_page(image);
-    let new_page_needed = free_slot(page_at(image, active.page)).is_none();
+    let new_page_needed = free_slots(page_at(image, active.page)).len() < change.words().len();
     if new_page_needed && active.order == LAST_ORDER {
         return Err(ORDER_END);
     }

@@ -1,4 +1,4 @@
-//! The six calls and the listing, done on the image as they go.
+//! The seven calls and the listing, done on the image as they go.
 
 use std::fmt::Write;
 
@@ -13,14 +13,17 @@ use crate::{Pairing, Reading, Stepped, Store};
 pub struct Second;
 
 impl Store for Second {
-    fn format(&self, image: &mut [u8]) -> u8 {
-        format(image)
+    fn format(&self, image: &mut [u8], edition: Edition) -> u8 {
+        format(image, edition)
     }
     fn recover(&self, image: &mut [u8], allowance: u16) -> Stepped {
         recover(image, allowance)
     }
     fn write(&self, image: &mut [u8], address: u16, value: u8, allowance: u16) -> Stepped {
         write(image, address, value, allowance)
+    }
+    fn write_group(&self, image: &mut [u8], group: &[u8], allowance: u16) -> Stepped {
+        write_group(image, group, allowance)
     }
     fn read(&self, image: &[u8], address: u16) -> Reading {
         read(image, address)
@@ -33,17 +36,19 @@ impl Store for Second {
     }
 }
 
-/// The image with an allowance of steps. Once the allowance is used up no step is done, and the call isn't finished.
+/// The image with an allowance of steps, and the edition at the call. Once the allowance is used up no step is done, and
+/// the call isn't finished.
 struct Flash<'a> {
     image: &'a mut [u8],
+    edition: Edition,
     allowance: u16,
     steps: u16,
     finished: bool,
 }
 
 impl Flash<'_> {
-    fn new(image: &mut [u8], allowance: u16) -> Flash<'_> {
-        Flash { image, allowance, steps: 0, finished: true }
+    fn new(image: &mut [u8], edition: Edition, allowance: u16) -> Flash<'_> {
+        Flash { image, edition, allowance, steps: 0, finished: true }
     }
 
     fn step(&mut self, step: Step) {
@@ -64,56 +69,69 @@ impl Flash<'_> {
         self.program_word(page * PAGE_BYTES + offset, word);
     }
 
-    fn program_record(&mut self, page: usize, slot: usize, address: u16, value: u8) {
-        self.program_word(page * PAGE_BYTES + slot_offset(slot), record(address, value));
+    fn program_slot(&mut self, page: usize, slot: usize, word: Word) {
+        self.program_word(page * PAGE_BYTES + slot_offset(slot), word);
+    }
+
+    fn program_slots(&mut self, page: usize, first: usize, words: &[Word]) {
+        for (slot, &word) in (first..).zip(words) {
+            self.program_slot(page, slot, word);
+        }
     }
 
     fn renew(&mut self, page: usize, wear: u16) {
         self.step(Step::Erase { page });
-        self.program_header(page, WEAR_OFFSET, wear_word(wear));
+        self.program_header(page, WEAR_OFFSET, wear_word(wear, self.edition));
     }
 
-    /// Looks at each page only when its turn comes: a page renewed never changes what the others are, but its new wear
-    /// counts for those behind it.
-    fn recover_pages(&mut self) {
-        for page in 0..page_count(self.image) {
-            if unclean_pages(self.image).contains(&page) {
-                self.renew(page, next_wear(self.image, page));
-            }
+    fn abandon(&mut self) {
+        if let Some((page, slot)) = slot_to_abandon(self.image) {
+            self.program_slot(page, slot, mark_word(Mark::Abandons));
         }
     }
 
-    fn open_page(&mut self, page: usize, order: u32, address: u16, value: u8) {
+    /// The wear of each page is looked up when its turn comes, because the pages before it count with their new wear.
+    fn renew_unclean_pages(&mut self) {
+        for page in unclean_pages(self.image) {
+            self.renew(page, next_wear(self.image, self.edition, page));
+        }
+    }
+
+    fn open_page(&mut self, page: usize, order: u32, change: &Change) {
         self.program_header(page, OPENING_OFFSET, order_word(order, PLAIN));
-        self.program_record(page, 0, address, value);
+        self.program_slots(page, 0, &change.words());
     }
 
     /// Until the done word is whole the page is receiving and the old pages are used; after it they aren't, so that
     /// treating them is just what recovery does.
-    fn move_to(&mut self, page: usize, order: u32, address: u16, value: u8) {
-        let mut held = held(self.image);
-        held.remove(&address);
-        self.program_header(page, OPENING_OFFSET, order_word(order, RECEIVING));
-        for (slot, (&address, &value)) in held.iter().enumerate() {
-            self.program_record(page, slot, address, value);
+    fn move_to(&mut self, page: usize, order: u32, change: &Change) {
+        let mut copied = held(self.image);
+        for (address, _) in change.settings() {
+            copied.remove(address);
         }
-        self.program_record(page, held.len(), address, value);
+        self.program_header(page, OPENING_OFFSET, order_word(order, RECEIVING));
+        for (slot, (&address, &value)) in copied.iter().enumerate() {
+            self.program_slot(page, slot, record(address, value));
+        }
+        self.program_slots(page, copied.len(), &change.records());
         self.program_header(page, DONE_OFFSET, done_word(order));
-        self.recover_pages();
+        self.renew_unclean_pages();
     }
 
-    fn write(&mut self, address: u16, value: u8) {
+    fn change(&mut self, change: &Change) {
         let active = active_page(self.image);
-        if let Some(slot) = free_slot(page_at(self.image, active.page)) {
-            self.program_record(active.page, slot, address, value);
+        let free = free_slots(page_at(self.image, active.page));
+        let words = change.words();
+        if words.len() <= free.len() {
+            self.program_slots(active.page, free.start, &words);
             return;
         }
         let cleared = cleared_pages(self.image);
         let page = least_worn(&cleared);
         if cleared.len() >= 2 {
-            self.open_page(page, active.order + 1, address, value);
+            self.open_page(page, active.order + 1, change);
         } else {
-            self.move_to(page, active.order + 1, address, value);
+            self.move_to(page, active.order + 1, change);
         }
     }
 
@@ -133,11 +151,11 @@ fn least_worn(cleared: &[(usize, u16)]) -> usize {
     best
 }
 
-pub fn format(image: &mut [u8]) -> u8 {
+pub fn format(image: &mut [u8], edition: Edition) -> u8 {
     if let Err(number) = test_size(image) {
         return number;
     }
-    let mut flash = Flash::new(image, u16::MAX);
+    let mut flash = Flash::new(image, edition, u16::MAX);
     for page in 0..page_count(flash.image) {
         flash.renew(page, 1);
     }
@@ -149,19 +167,30 @@ pub fn recover(image: &mut [u8], allowance: u16) -> Stepped {
     if let Err(number) = test_store(image) {
         return Stepped::refused(number);
     }
-    let mut flash = Flash::new(image, allowance);
-    flash.recover_pages();
+    let edition = edition(image);
+    let mut flash = Flash::new(image, edition, allowance);
+    flash.abandon();
+    flash.renew_unclean_pages();
     flash.answer()
 }
 
-pub fn write(image: &mut [u8], address: u16, new: u8, allowance: u16) -> Stepped {
-    if let Err(number) = test_write(image, address, new) {
+pub fn write(image: &mut [u8], address: u16, value: u8, allowance: u16) -> Stepped {
+    do_change(image, &Change::Single((address, value)), allowance)
+}
+
+pub fn write_group(image: &mut [u8], group: &[u8], allowance: u16) -> Stepped {
+    do_change(image, &Change::group(group), allowance)
+}
+
+fn do_change(image: &mut [u8], change: &Change, allowance: u16) -> Stepped {
+    if let Err(number) = test_change(image, change) {
         return Stepped::refused(number);
     }
-    let already_held = value(image, address) == Some(new);
-    let mut flash = Flash::new(image, allowance);
+    let already_held = is_held(image, change);
+    let edition = edition(image);
+    let mut flash = Flash::new(image, edition, allowance);
     if !already_held {
-        flash.write(address, new);
+        flash.change(change);
     }
     flash.answer()
 }

@@ -68,33 +68,38 @@ fn header_steps(page: usize, offset: usize, word: Word) -> [Step; 2] {
     program_word_steps(page * PAGE_BYTES + offset, word)
 }
 
-pub fn record_steps(page: usize, slot: usize, address: u16, value: u8) -> [Step; 2] {
-    program_word_steps(page * PAGE_BYTES + slot_offset(slot), record(address, value))
+pub fn slot_steps(page: usize, slot: usize, word: Word) -> [Step; 2] {
+    program_word_steps(page * PAGE_BYTES + slot_offset(slot), word)
 }
 
-fn renew_steps(page: usize, wear: u16) -> [Step; 3] {
-    let [first, second] = header_steps(page, WEAR_OFFSET, wear_word(wear));
+/// The words one behind the other, from this slot on.
+pub fn slots_steps(page: usize, first: usize, words: &[Word]) -> Vec<Step> {
+    words.iter().enumerate().flat_map(|(place, &word)| slot_steps(page, first + place, word)).collect()
+}
+
+fn renew_steps(page: usize, wear: u16, edition: Edition) -> [Step; 3] {
+    let [first, second] = header_steps(page, WEAR_OFFSET, wear_word(wear, edition));
     [Step::Erase { page }, first, second]
 }
 
 /// The steps that renew these pages one after the other, each with the wear that it gets by the image just before its
 /// erase.
-fn renewal_steps(image: &[u8], pages: impl IntoIterator<Item = usize>) -> Vec<Step> {
+fn renewal_steps(image: &[u8], edition: Edition, pages: impl IntoIterator<Item = usize>) -> Vec<Step> {
     let mut now = image.to_vec();
     let mut steps = Vec::new();
     for page in pages {
-        let renewed = renew_steps(page, next_wear(&now, page));
+        let renewed = renew_steps(page, next_wear(&now, edition, page), edition);
         renewed.iter().for_each(|&step| do_step(&mut now, step));
         steps.extend(renewed);
     }
     steps
 }
 
-pub fn format_steps(image: &[u8]) -> Result<Vec<Step>, u8> {
+pub fn format_steps(image: &[u8], edition: Edition) -> Result<Vec<Step>, u8> {
     test_size(image)?;
     let mut steps = Vec::new();
     for page in 0..page_count(image) {
-        steps.extend(renew_steps(page, 1));
+        steps.extend(renew_steps(page, 1, edition));
     }
     steps.extend(header_steps(0, OPENING_OFFSET, order_word(0, PLAIN)));
     Ok(steps)
@@ -102,51 +107,79 @@ pub fn format_steps(image: &[u8]) -> Result<Vec<Step>, u8> {
 
 pub fn recovery_steps(image: &[u8]) -> Result<Vec<Step>, u8> {
     test_store(image)?;
-    Ok(renewal_steps(image, unclean_pages(image)))
+    let mut steps = Vec::new();
+    if let Some((page, slot)) = slot_to_abandon(image) {
+        steps.extend(slot_steps(page, slot, mark_word(Mark::Abandons)));
+    }
+    steps.extend(renewal_steps(image, edition(image), unclean_pages(image)));
+    Ok(steps)
 }
 
-pub fn write_steps(image: &[u8], address: u16, value: u8) -> Result<Vec<Step>, u8> {
-    test_write(image, address, value)?;
-    if held(image).get(&address) == Some(&value) {
-        return Ok(Vec::new());
+/// The steps of a write or a group write.
+pub fn change_steps(image: &[u8], change: &Change) -> Result<Vec<Step>, u8> {
+    test_change(image, change)?;
+    Ok(accepted_steps(image, change))
+}
+
+/// The same, of a change that is known to be accepted.
+pub fn accepted_steps(image: &[u8], change: &Change) -> Vec<Step> {
+    if is_held(image, change) {
+        return Vec::new();
     }
+    placing_steps(image, &change.words(), || moved_words(image, change))
+}
+
+/// These words from the free slot on or into a new page, or else a move of the others.
+pub fn placing_steps(image: &[u8], words: &[Word], moved: impl FnOnce() -> Vec<Word>) -> Vec<Step> {
     let active = active_page(image);
-    if let Some(slot) = free_slot(page_at(image, active.page)) {
-        return Ok(record_steps(active.page, slot, address, value).to_vec());
+    let free = free_slots(page_at(image, active.page));
+    if free.len() >= words.len() {
+        return slots_steps(active.page, free.start, words);
     }
     let cleared = cleared_pages(image);
     let (page, _) =
         *cleared.iter().min_by_key(|&&(page, wear)| (wear, page)).expect("tests 3 and 4 leave a cleared page");
     if cleared.len() == 1 {
-        return Ok(move_steps(image, page, active.order + 1, address, value));
+        return move_steps(image, page, active.order + 1, &moved());
     }
-    let mut steps = header_steps(page, OPENING_OFFSET, order_word(active.order + 1, PLAIN)).to_vec();
-    steps.extend(record_steps(page, 0, address, value));
-    Ok(steps)
+    let opening = header_steps(page, OPENING_OFFSET, order_word(active.order + 1, PLAIN));
+    [opening.to_vec(), slots_steps(page, 0, words)].concat()
+}
+
+/// The copies of a move: a record for each held address but the written ones, by rising address.
+pub fn copies(image: &[u8], change: &Change) -> Vec<Word> {
+    let copied = held(image).into_iter().filter(|&(address, _)| !change.names(address));
+    copied.map(|(address, value)| record(address, value)).collect()
+}
+
+/// What a move programs: the copies, and behind them the new records without marks.
+fn moved_words(image: &[u8], change: &Change) -> Vec<Word> {
+    [copies(image, change), change.records()].concat()
 }
 
 /// Every page but the receiving one is used when a move begins, and none is once the done word is there.
-fn move_steps(image: &[u8], page: usize, order: u32, address: u16, value: u8) -> Vec<Step> {
-    let mut records: Vec<(u16, u8)> = held(image).into_iter().filter(|&(held, _)| held != address).collect();
-    records.push((address, value));
+fn move_steps(image: &[u8], page: usize, order: u32, words: &[Word]) -> Vec<Step> {
     let mut steps = header_steps(page, OPENING_OFFSET, order_word(order, RECEIVING)).to_vec();
-    for (slot, &(address, value)) in records.iter().enumerate() {
-        steps.extend(record_steps(page, slot, address, value));
-    }
+    steps.extend(slots_steps(page, 0, words));
     steps.extend(header_steps(page, DONE_OFFSET, done_word(order)));
     let mut filled = image.to_vec();
     steps.iter().for_each(|&step| do_step(&mut filled, step));
-    steps.extend(renewal_steps(&filled, (0..page_count(image)).filter(|&other| other != page)));
+    let others = (0..page_count(image)).filter(|&other| other != page);
+    steps.extend(renewal_steps(&filled, edition(image), others));
     steps
 }
 
 /// A store given by its lists of steps, and by how it takes an image to be before it reads it.
 pub trait Plan {
-    fn format_steps(&self, image: &[u8]) -> Result<Vec<Step>, u8> {
-        format_steps(image)
+    fn format_steps(&self, image: &[u8], edition: Edition) -> Result<Vec<Step>, u8> {
+        format_steps(image, edition)
     }
     fn recovery_steps(&self, image: &[u8]) -> Result<Vec<Step>, u8>;
-    fn write_steps(&self, image: &[u8], address: u16, value: u8) -> Result<Vec<Step>, u8>;
+    fn change_steps(&self, image: &[u8], change: &Change) -> Result<Vec<Step>, u8>;
+    /// The group in the bytes that a group write is lent.
+    fn group(&self, bytes: &[u8]) -> Change {
+        Change::group(bytes)
+    }
     /// The rules see the image as it is; only a broken store (see `broken`) sees another.
     fn seen(&self, image: &[u8]) -> Vec<u8> {
         image.to_vec()
@@ -157,8 +190,8 @@ impl Plan for Second {
     fn recovery_steps(&self, image: &[u8]) -> Result<Vec<Step>, u8> {
         recovery_steps(image)
     }
-    fn write_steps(&self, image: &[u8], address: u16, value: u8) -> Result<Vec<Step>, u8> {
-        write_steps(image, address, value)
+    fn change_steps(&self, image: &[u8], change: &Change) -> Result<Vec<Step>, u8> {
+        change_steps(image, change)
     }
 }
 
@@ -187,8 +220,8 @@ impl<P: Plan> Stepwise<P> {
 }
 
 impl<P: Plan> Store for Stepwise<P> {
-    fn format(&self, image: &mut [u8]) -> u8 {
-        let steps = self.0.format_steps(image);
+    fn format(&self, image: &mut [u8], edition: Edition) -> u8 {
+        let steps = self.0.format_steps(image, edition);
         Self::run(image, steps, u16::MAX).number
     }
     fn recover(&self, image: &mut [u8], allowance: u16) -> Stepped {
@@ -196,7 +229,11 @@ impl<P: Plan> Store for Stepwise<P> {
         Self::run(image, steps, allowance)
     }
     fn write(&self, image: &mut [u8], address: u16, value: u8, allowance: u16) -> Stepped {
-        let steps = self.0.write_steps(image, address, value);
+        let steps = self.0.change_steps(image, &Change::Single((address, value)));
+        Self::run(image, steps, allowance)
+    }
+    fn write_group(&self, image: &mut [u8], group: &[u8], allowance: u16) -> Stepped {
+        let steps = self.0.change_steps(image, &self.0.group(group));
         Self::run(image, steps, allowance)
     }
     fn read(&self, image: &[u8], address: u16) -> Reading {

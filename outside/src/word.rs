@@ -12,6 +12,22 @@ pub const LAST_ORDER: u32 = 4_194_303;
 /// The address that no record may have.
 pub const NO_ADDRESS: u16 = 65_535;
 
+/// The most settings that a group may have.
+pub const MOST_IN_A_GROUP: usize = 8;
+
+/// A mark has the value 0 if it abandons, n if it opens a group of n records, and 128 + n if it closes one.
+const ABANDONING: u8 = 0;
+const CLOSING: u8 = 128;
+
+/// The edition of a store's pages, which is the third byte of their wear words.
+#[derive(Clone, Copy, Debug, PartialEq, Eq)]
+pub enum Edition {
+    First = 1,
+    Second = 2,
+}
+
+pub const EDITIONS: [Edition; 2] = [Edition::First, Edition::Second];
+
 /// A word is exactly one of these.
 #[derive(Clone, Copy, Debug, PartialEq, Eq)]
 pub enum Condition {
@@ -21,8 +37,27 @@ pub enum Condition {
     Spoiled,
 }
 
-pub fn zero_bits(bytes: [u8; 3]) -> u8 {
-    bytes.iter().map(|byte| byte.count_zeros() as u8).sum()
+/// What stands in a slot.
+#[derive(Clone, Copy, Debug, PartialEq, Eq)]
+pub enum Slot {
+    Record { address: u16, value: u8 },
+    Mark(Mark),
+    Blank,
+    HalfWritten,
+    Spoiled,
+}
+
+#[derive(Clone, Copy, Debug, PartialEq, Eq)]
+pub enum Mark {
+    /// Opens a group of that many records.
+    Opens(u8),
+    /// Closes one.
+    Closes(u8),
+    Abandons,
+}
+
+pub fn zero_bits([first, second, third]: [u8; 3]) -> u8 {
+    u32::from_le_bytes([first, second, third, 255]).count_zeros() as u8
 }
 
 /// The sound word that begins with these three bytes.
@@ -52,18 +87,9 @@ pub fn condition(word: Word) -> Condition {
     }
 }
 
-/// The same in a slot, where a sound word with address 65,535 counts as spoiled: no record has it.
-pub fn slot_condition(word: Word) -> Condition {
-    if is_sound(word) && word[..2] == [255, 255] {
-        Condition::Spoiled
-    } else {
-        condition(word)
-    }
-}
-
-pub fn wear_word(wear: u16) -> Word {
+pub fn wear_word(wear: u16, edition: Edition) -> Word {
     let [low, high] = wear.to_le_bytes();
-    sound_word([low, high, 1])
+    sound_word([low, high, edition as u8])
 }
 
 /// Order x 4 + kind, 24 bits, low byte first.
@@ -82,9 +108,20 @@ pub fn record(address: u16, value: u8) -> Word {
     sound_word([low, high, value])
 }
 
-/// The wear in a sound wear word with third byte 1.
-pub fn wear_in(word: Word) -> Option<u16> {
-    if is_sound(word) && word[2] == 1 {
+pub fn mark_word(mark: Mark) -> Word {
+    record(
+        NO_ADDRESS,
+        match mark {
+            Mark::Opens(records) => records,
+            Mark::Closes(records) => CLOSING + records,
+            Mark::Abandons => ABANDONING,
+        },
+    )
+}
+
+/// The wear in a sound wear word of this edition.
+pub fn wear_in(word: Word, edition: Edition) -> Option<u16> {
+    if is_sound(word) && word[2] == edition as u8 {
         Some(u16::from_le_bytes([word[0], word[1]]))
     } else {
         None
@@ -100,10 +137,24 @@ pub fn order_and_kind_in(word: Word) -> Option<(u32, u32)> {
     Some((number / 4, number % 4))
 }
 
-/// Address and value in a sound slot.
-pub fn record_in(word: Word) -> Option<(u16, u8)> {
-    match slot_condition(word) {
-        Condition::Sound => Some((u16::from_le_bytes([word[0], word[1]]), word[2])),
+/// What the word is in a slot. There a sound word with address 65,535 is no record: it is a mark or counts as spoiled.
+pub fn slot_in(word: Word, edition: Edition) -> Slot {
+    let [low, high, value, _] = word;
+    match condition(word) {
+        Condition::Sound if [low, high] == [255, 255] => mark_of(value, edition).map_or(Slot::Spoiled, Slot::Mark),
+        Condition::Sound => Slot::Record { address: u16::from_le_bytes([low, high]), value },
+        Condition::Blank => Slot::Blank,
+        Condition::HalfWritten => Slot::HalfWritten,
+        Condition::Spoiled => Slot::Spoiled,
+    }
+}
+
+/// The mark of this value. The first edition has none.
+fn mark_of(value: u8, edition: Edition) -> Option<Mark> {
+    match (edition, value) {
+        (Edition::Second, ABANDONING) => Some(Mark::Abandons),
+        (Edition::Second, 1..=8) => Some(Mark::Opens(value)),
+        (Edition::Second, 129..=136) => Some(Mark::Closes(value - CLOSING)),
         _ => None,
     }
 }

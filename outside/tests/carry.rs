@@ -1,12 +1,12 @@
 //! What `include/istrovell.h` tells a flash driver to do, "carrying the steps to flash": the steps that it finds by
 //! comparing flash and copy, allowance by allowance, are the steps of the plan in their order.
 //!
-//! A broken store that this catches: a write that does all its steps at allowance 1 (`Eager`).
+//! A broken store that this catches: a write, or a group write, that does all its steps at allowance 1 (`Eager`).
 
 use outside::broken::Eager;
-use outside::images::image;
+use outside::images::{image, some_change};
 use outside::page::PAGE_BYTES;
-use outside::rng::seeds;
+use outside::rng::{seeds, Rng};
 use outside::rules::*;
 use outside::*;
 
@@ -54,6 +54,7 @@ fn carry(image: &[u8], plan: &[Step], call: impl Fn(&mut [u8], u16) -> Stepped) 
 struct Tally {
     recoveries: u64,
     writes: u64,
+    group_writes: u64,
     moves: u64,
     /// Steps that change nothing: the value 65,535 programmed, or a page erased that reads 255 throughout.
     idle: u64,
@@ -68,12 +69,15 @@ fn carry_image(store: &dyn Store, seed: u64, tally: &mut Tally) -> Result<(), St
     tally.recoveries += 1;
     let mut recovered = image;
     recover(&mut recovered, u16::MAX);
-    let address = held(&recovered).into_keys().last().unwrap_or(7);
-    let value = blank_read(&recovered, address).value.wrapping_add(1);
-    if let Ok(plan) = write_steps(&recovered, address, value) {
-        carry(&recovered, &plan, |work, allowance| store.write(work, address, value, allowance))?;
-        tally.writes += 1;
-        tally.moves += u64::from(plan.len() > 4);
+    let pool: Vec<u16> = held(&recovered).into_keys().chain([7]).collect();
+    let change = some_change(&recovered, &pool, &mut Rng::new(seed));
+    if let Ok(plan) = change_steps(&recovered, &change) {
+        carry(&recovered, &plan, |work, allowance| store.change(work, &change, allowance))?;
+        match change {
+            Change::Single(_) => tally.writes += 1,
+            Change::Group(_) => tally.group_writes += 1,
+        }
+        tally.moves += u64::from(plan.iter().any(|step| matches!(step, Step::Erase { .. })));
         let idle = |step: &&Step| matches!(step, Step::Program { value: 65_535, .. });
         tally.idle += plan.iter().filter(idle).count() as u64;
     }
@@ -87,7 +91,8 @@ fn the_header_finds_each_step() {
         carry_image(&SUBJECT, seed, &mut tally).unwrap_or_else(|text| panic!("ISTROVELL_SEED={seed}: {text}"));
     }
     println!("carried: {tally:?}");
-    assert!(tally.moves > 0 && tally.idle > 0 || tally.recoveries < 1_000);
+    let met = tally.writes > 0 && tally.group_writes > 0 && tally.moves > 0 && tally.idle > 0;
+    assert!(met || tally.recoveries < 1_000);
 }
 
 #[test]

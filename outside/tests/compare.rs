@@ -4,16 +4,17 @@
 //! `second` does them against the lists of steps of `steps`, run one step at a time.
 //!
 //! A broken store that this catches: a write that does all its steps at allowance 1 (`Eager`); the others are in
-//! `broken_stores_are_caught` and `wrong_pairings_are_caught`, and listings that miscount in `wrong_listings_are_caught`.
-//! ISTROVELL_IMAGES says how many images, ISTROVELL_SEED runs one alone.
+//! `broken_stores_are_caught`, `wrong_pairings_are_caught` and `wrong_groups_are_caught`, and listings that miscount in
+//! `wrong_listings_are_caught`. ISTROVELL_IMAGES says how many images, ISTROVELL_SEED runs one alone.
 
 use std::io::Write;
 use std::process::{Command, Stdio};
 use std::time::Instant;
 
-use outside::broken::{Broken, Eager, WRONG_LISTINGS, WRONG_PAIRINGS, WRONG_WEARS};
+use outside::broken::{Broken, Eager, WrongGroup, WRONG_GROUPS, WRONG_LISTINGS, WRONG_PAIRINGS, WRONG_WEARS};
+use outside::cases::{note_editions, note_group_write, note_groups, rare, Counts};
 use outside::guard::{note_seed, Guarded, Place};
-use outside::images::{self, some_value};
+use outside::images::{self, some_group_size, some_value};
 use outside::page::*;
 use outside::rng::{seeds, Rng};
 use outside::rules::*;
@@ -26,17 +27,18 @@ const SUBJECT: library::Library = library::Library;
 #[cfg(not(feature = "library"))]
 const SUBJECT: Stepwise<Second> = Stepwise(Second);
 
-#[derive(Clone, Copy, Debug)]
+#[derive(Clone, Debug)]
 enum Call {
-    Format,
+    Format { edition: Edition },
     Recover { allowance: u16 },
     Write { address: u16, value: u8, allowance: u16 },
+    WriteGroup { group: Vec<u8>, allowance: u16 },
     Read { address: u16 },
     BlankRead { address: u16 },
     Lookup,
 }
 
-const CALL_NAMES: [&str; 6] = ["format", "recovery", "write", "read", "blank read", "lookup"];
+const CALL_NAMES: [&str; 7] = ["format", "recovery", "write", "group write", "read", "blank read", "lookup"];
 
 #[derive(Clone, Copy, Debug, PartialEq, Eq)]
 enum Answer {
@@ -47,25 +49,27 @@ enum Answer {
 }
 
 impl Call {
-    fn on(self, store: &dyn Store, image: &mut [u8]) -> Answer {
-        match self {
-            Call::Format => Answer::Number(store.format(image)),
+    fn on(&self, store: &dyn Store, image: &mut [u8]) -> Answer {
+        match *self {
+            Call::Format { edition } => Answer::Number(store.format(image, edition)),
             Call::Recover { allowance } => Answer::Stepped(store.recover(image, allowance)),
             Call::Write { address, value, allowance } => Answer::Stepped(store.write(image, address, value, allowance)),
+            Call::WriteGroup { ref group, allowance } => Answer::Stepped(store.write_group(image, group, allowance)),
             Call::Read { address } => Answer::Reading(store.read(image, address)),
             Call::BlankRead { address } => Answer::Reading(store.blank_read(image, address)),
             Call::Lookup => Answer::Pairing(store.lookup(image)),
         }
     }
 
-    fn index(self) -> usize {
+    fn index(&self) -> usize {
         match self {
-            Call::Format => 0,
+            Call::Format { .. } => 0,
             Call::Recover { .. } => 1,
             Call::Write { .. } => 2,
-            Call::Read { .. } => 3,
-            Call::BlankRead { .. } => 4,
-            Call::Lookup => 5,
+            Call::WriteGroup { .. } => 3,
+            Call::Read { .. } => 4,
+            Call::BlankRead { .. } => 5,
+            Call::Lookup => 6,
         }
     }
 }
@@ -84,11 +88,13 @@ impl Answer {
 /// What the run met, to show that it met everything.
 #[derive(Default)]
 struct Tally {
-    numbers: [[u64; 9]; 6],
+    numbers: [[u64; 10]; 7],
     codes: Codes,
-    /// Accepted writes by the greatest number of steps they did: 0, 1, 2, 3, 4, more.
-    write_steps: [u64; 6],
+    /// Accepted writes, and accepted group writes, by the greatest number of steps they did: 0, 1, 2, 3, 4, more.
+    steps: [[u64; 6]; 2],
     unfinished: u64,
+    /// The groups and editions of the images, and the cases of group writes.
+    cases: Counts,
 }
 
 /// What the lookups found.
@@ -116,50 +122,81 @@ impl Codes {
 }
 
 impl Tally {
-    fn count(&mut self, image: &[u8], call: Call, answer: Answer) {
+    fn count_image(&mut self, image: &[u8]) {
+        if test_size(image).is_ok() {
+            note_editions(image, &mut self.cases);
+        }
+        if test_store(image).is_ok() {
+            note_groups(image, &mut self.cases);
+        }
+    }
+
+    fn count(&mut self, image: &[u8], call: &Call, answer: Answer) {
         self.numbers[call.index()][usize::from(answer.number())] += 1;
-        match answer {
-            Answer::Pairing(answer) if answer.number == OK => self.codes.count(image, answer),
-            Answer::Stepped(answer) if answer.number == OK && call.index() == 2 => {
-                self.write_steps[usize::from(answer.steps).min(5)] += 1;
-                self.unfinished += u64::from(!answer.finished);
+        match (call, answer) {
+            (_, Answer::Pairing(answer)) if answer.number == OK => self.codes.count(image, answer),
+            (Call::Write { .. }, Answer::Stepped(answer)) => self.count_steps(0, answer),
+            (Call::WriteGroup { group, .. }, Answer::Stepped(answer)) => {
+                self.count_steps(1, answer);
+                note_group_write(image, group, answer, &mut self.cases);
             }
             _ => {}
         }
     }
 
-    fn print(&self) {
-        for (name, numbers) in CALL_NAMES.iter().zip(self.numbers) {
-            println!("  {name:10} answers by number 0 to 8: {numbers:?}");
+    fn count_steps(&mut self, which: usize, answer: Stepped) {
+        if answer.number == OK {
+            self.steps[which][usize::from(answer.steps).min(5)] += 1;
+            self.unfinished += u64::from(!answer.finished);
         }
-        println!("  writes of 0, 1, 2, 3, 4 and more steps: {:?}, unfinished {}", self.write_steps, self.unfinished);
-        println!("  pairing codes: {:?}", self.codes);
     }
 
-    /// Each call gave each of its numbers, and no other.
+    fn print(&self) {
+        for (name, numbers) in CALL_NAMES.iter().zip(self.numbers) {
+            println!("  {name:11} answers by number 0 to 9: {numbers:?}");
+        }
+        let [writes, group_writes] = self.steps;
+        println!("  writes of 0, 1, 2, 3, 4 and more steps: {writes:?}, group writes: {group_writes:?}");
+        println!("  unfinished: {}", self.unfinished);
+        println!("  pairing codes: {:?}", self.codes);
+        for (case, count) in &self.cases {
+            println!("  {count:7} {case}");
+        }
+    }
+
+    /// Each call gave each of its numbers, and no other; and each case was met.
     fn assert_complete(&self) {
-        let given: [&[u8]; 6] =
-            [&[0, 1], &[0, 1, 2, 3], &[0, 1, 2, 3, 4, 5, 6, 7], &[0, 1, 2, 3, 5, 8], &[0, 1, 2, 3, 5], &[0, 1, 2, 3]];
-        for call in 0..6 {
-            for number in 0..9 {
+        let given: [&[u8]; 7] = [
+            &[0, 1],
+            &[0, 1, 2, 3],
+            &[0, 1, 2, 3, 4, 5, 6, 7],
+            &[0, 1, 2, 3, 4, 5, 6, 7, 9],
+            &[0, 1, 2, 3, 5, 8],
+            &[0, 1, 2, 3, 5],
+            &[0, 1, 2, 3],
+        ];
+        for call in 0..7 {
+            for number in 0..10 {
                 let expected = given[call].contains(&(number as u8));
                 let met = self.numbers[call][number] > 0;
                 assert_eq!(met, expected, "{} met number {number}: {met}", CALL_NAMES[call]);
             }
         }
         self.codes.assert_complete();
-        assert!(self.write_steps.iter().all(|&count| count > 0));
+        assert!(self.steps.iter().flatten().all(|&count| count > 0));
+        assert_eq!(rare(&self.cases, 1), [""; 0], "never met");
     }
 }
 
 /// One call on both stores, from the same image. Gives the image after it.
-fn compare_call(image: &[u8], call: Call, stores: [&dyn Store; 2], tally: &mut Tally) -> Result<Vec<u8>, String> {
+fn compare_call(image: &[u8], call: &Call, stores: [&dyn Store; 2], tally: &mut Tally) -> Result<Vec<u8>, String> {
     let mut images = [image.to_vec(), image.to_vec()];
     let answers = [call.on(stores[0], &mut images[0]), call.on(stores[1], &mut images[1])];
     if answers[0] != answers[1] {
         return Err(format!("{call:?}: {:?} and {:?}", answers[0], answers[1]));
     }
-    if let Some(offset) = (0..image.len()).find(|&offset| images[0][offset] != images[1][offset]) {
+    if images[0] != images[1] {
+        let offset = (0..image.len()).find(|&offset| images[0][offset] != images[1][offset]).expect("a byte differs");
         let (first, second) = (images[0][offset], images[1][offset]);
         return Err(format!(
             "{call:?}: {:?}, byte {offset} is {first} and {second}, was {}",
@@ -199,29 +236,121 @@ fn held_value(image: &[u8], address: u16) -> Option<u8> {
     test_store(image).ok().and_then(|()| value(image, address))
 }
 
-/// The first address gets every allowance; the others one for the value that a blank read gives, which takes steps only if
-/// it isn't held, and one for another value.
+/// As many as are worth trying for a change: at its ends, in it, and none too few or too many.
+fn allowances_for(image: &[u8], change: &Change, rng: &mut Rng) -> [u16; 8] {
+    let length = change_steps(image, change).map_or(0, |steps| steps.len());
+    let before_the_end = length.saturating_sub(1 + rng.below(8)) as u16;
+    let inside = rng.below(length + 1) as u16;
+    [0, 1, 2, 3, inside, before_the_end, length as u16, u16::MAX]
+}
+
+/// The first address gets every allowance; each gets one for the value that a blank read gives, which takes steps only if it
+/// isn't held, or for any.
 fn writes_for(image: &[u8], addresses: &[u16], rng: &mut Rng) -> Vec<Call> {
     let mut calls = Vec::new();
     let main = addresses[0];
     let other = held_value(image, main).unwrap_or(rng.byte()).wrapping_add(1 + rng.below(255) as u8);
-    let length = write_steps(image, main, other).map_or(0, |steps| steps.len());
-    let before_the_end = length.saturating_sub(1 + rng.below(8)) as u16;
-    let inside = rng.below(length + 1) as u16;
-    for allowance in [0, 1, 2, 3, inside, before_the_end, length as u16, u16::MAX] {
+    for allowance in allowances_for(image, &Change::Single((main, other)), rng) {
         calls.push(Call::Write { address: main, value: other, allowance });
     }
     for &address in addresses {
-        let blank = held_value(image, address).unwrap_or(0);
-        calls.push(Call::Write { address, value: blank, allowance: some_allowance(rng) });
-        calls.push(Call::Write { address, value: some_value(rng), allowance: some_allowance(rng) });
+        let value = if rng.one_in(2) { held_value(image, address).unwrap_or(0) } else { some_value(rng) };
+        calls.push(Call::Write { address, value, allowance: some_allowance(rng) });
+    }
+    calls
+}
+
+/// What a group write depends on: the settings of an image that is accepted, and how many free slots it has.
+struct Room {
+    held: Vec<Setting>,
+    free: usize,
+}
+
+impl Room {
+    fn of(image: &[u8]) -> Room {
+        if test_store(image).is_err() {
+            return Room { held: Vec::new(), free: 0 };
+        }
+        let active = page_at(image, active_page(image).page);
+        Room { held: held(image).into_iter().collect(), free: free_slots(active).len() }
+    }
+
+    /// This many of the held settings, or all if there are fewer.
+    fn some_held(&self, count: usize, rng: &mut Rng) -> Vec<Setting> {
+        let mut held = self.held.clone();
+        rng.shuffle(&mut held);
+        held.truncate(count);
+        held
+    }
+
+    /// Settings of which this many have addresses that aren't held. The others have other values than they have now.
+    fn some_settings(&self, new: usize, count: usize, rng: &mut Rng) -> Vec<Setting> {
+        let mut settings = self.some_held(count - new, rng);
+        settings.iter_mut().for_each(|(_, value)| *value = value.wrapping_add(1 + rng.below(255) as u8));
+        while settings.len() < count {
+            let address = rng.below(65_535) as u16;
+            if !self.held.iter().chain(&settings).any(|&(named, _)| named == address) {
+                settings.push((address, some_value(rng)));
+            }
+        }
+        rng.shuffle(&mut settings);
+        settings
+    }
+
+    /// Held addresses, new ones or both: as many new ones as there is just room for, or just not, if that is few.
+    fn some_group(&self, rng: &mut Rng) -> Vec<Setting> {
+        let count = some_group_size(self.free, rng);
+        let room = MOST_HELD - self.held.len();
+        let new = match rng.below(4) {
+            0 => 0,
+            1 => count,
+            _ if room < MOST_IN_A_GROUP => room + rng.below(2),
+            _ => rng.below(count + 1),
+        };
+        self.some_settings(new, count.max(new), rng)
+    }
+
+    /// Bytes that are no group, or name an address that is none.
+    fn wrong_groups(&self, rng: &mut Rng) -> [Vec<u8>; 3] {
+        let length = rng.pick(&[0, 1, 2, 4, 23, 25, 27, 30, 765]);
+        let wrong_length = (0..length).map(|_| rng.byte()).collect();
+        let count = some_group_size(self.free, rng).max(2);
+        let mut settings = self.some_settings(rng.below(3), count, rng);
+        let (place, other) = (rng.below(count), rng.below(count));
+        settings[place].0 = NO_ADDRESS;
+        let wrong_address = group_bytes(&settings);
+        settings[place].0 = settings[other].0;
+        if place == other {
+            settings[(place + 1) % count].0 = NO_ADDRESS;
+        }
+        [wrong_length, wrong_address, group_bytes(&settings)]
+    }
+}
+
+/// One group gets every allowance. The others are held already, or but for one setting, or are wrong.
+fn groups_for(image: &[u8], rng: &mut Rng) -> Vec<Call> {
+    let room = Room::of(image);
+    let main = room.some_group(rng);
+    let group = group_bytes(&main);
+    let allowances = allowances_for(image, &Change::Group(main), rng);
+    let mut calls = allowances.map(|allowance| Call::WriteGroup { group: group.clone(), allowance }).to_vec();
+    let count = some_group_size(room.free, rng);
+    let all_held = room.some_held(count, rng);
+    let mut all_but_one = all_held.clone();
+    if let Some((_, value)) = all_but_one.last_mut() {
+        *value = value.wrapping_add(1);
+    }
+    let others = [group_bytes(&all_held), group_bytes(&all_but_one), group_bytes(&room.some_group(rng))];
+    for group in others.into_iter().chain(room.wrong_groups(rng)) {
+        calls.push(Call::WriteGroup { group, allowance: some_allowance(rng) });
     }
     calls
 }
 
 fn calls_for(image: &[u8], rng: &mut Rng) -> Vec<Call> {
     let addresses = addresses_for(image, rng);
-    let mut calls = vec![Call::Format, Call::Lookup];
+    let mut calls = vec![Call::Lookup];
+    calls.extend(EDITIONS.map(|edition| Call::Format { edition }));
     for allowance in [0, 1 + rng.below(3) as u16, rng.below(96) as u16, u16::MAX] {
         calls.push(Call::Recover { allowance });
     }
@@ -229,31 +358,41 @@ fn calls_for(image: &[u8], rng: &mut Rng) -> Vec<Call> {
         calls.extend([Call::Read { address }, Call::BlankRead { address }]);
     }
     calls.extend(writes_for(image, &addresses, rng));
+    calls.extend(groups_for(image, rng));
     calls
 }
 
-/// All six calls on the image of this seed; and writes on the recovered image too, because most crafted images are
+/// All seven calls on the image of this seed; and both writes on the recovered image too, because most crafted images are
 /// unclean, and on what the first write leaves, with a lookup at last.
 fn compare_image(seed: u64, stores: [&dyn Store; 2], tally: &mut Tally) -> Result<(), String> {
     let mut rng = Rng::new(!seed);
     let image = images::image(seed);
+    tally.count_image(&image);
     for call in calls_for(&image, &mut rng) {
-        compare_call(&image, call, stores, tally)?;
+        compare_call(&image, &call, stores, tally)?;
     }
-    let recovered = compare_call(&image, Call::Recover { allowance: u16::MAX }, stores, tally)?;
+    let recovered = compare_call(&image, &Call::Recover { allowance: u16::MAX }, stores, tally)?;
     let mut latest = recovered.clone();
     let addresses = addresses_for(&recovered, &mut rng);
     if recovered != image {
-        for call in writes_for(&recovered, &addresses, &mut rng) {
-            compare_call(&recovered, call, stores, tally)?;
+        let writes = writes_for(&recovered, &addresses, &mut rng);
+        for call in writes.into_iter().chain(groups_for(&recovered, &mut rng)) {
+            compare_call(&recovered, &call, stores, tally)?;
         }
     }
     for address in addresses {
         let call = Call::Write { address, value: some_value(&mut rng), allowance: u16::MAX };
-        latest = compare_call(&latest, call, stores, tally)?;
-        compare_call(&latest, Call::Read { address }, stores, tally)?;
+        latest = compare_call(&latest, &call, stores, tally)?;
+        compare_call(&latest, &Call::Read { address }, stores, tally)?;
     }
-    compare_call(&latest, Call::Lookup, stores, tally)?;
+    for _ in 0..3 {
+        let group = Room::of(&latest).some_group(&mut rng);
+        let (address, _) = group[0];
+        let call = Call::WriteGroup { group: group_bytes(&group), allowance: u16::MAX };
+        latest = compare_call(&latest, &call, stores, tally)?;
+        compare_call(&latest, &Call::Read { address }, stores, tally)?;
+    }
+    compare_call(&latest, &Call::Lookup, stores, tally)?;
     Ok(())
 }
 
@@ -310,6 +449,22 @@ fn the_listing_agrees_with_reads() {
             assert_eq!((reading.number, reading.value.to_string()), (OK, value.to_string()), "seed {seed}");
         }
     }
+}
+
+/// The listings that tests/listing compares the program with are by a model of their own, in Python.
+#[test]
+fn the_stored_listings_are_right() {
+    let directory = concat!(env!("CARGO_MANIFEST_DIR"), "/../tests/listing.d");
+    let mut compared = 0;
+    for path in std::fs::read_dir(directory).unwrap().map(|entry| entry.unwrap().path()) {
+        if path.extension().is_some_and(|extension| extension == "bin") {
+            let image = std::fs::read(&path).unwrap();
+            let stored = std::fs::read(path.with_extension("txt")).unwrap();
+            assert!(listing(&image) == stored, "{path:?}");
+            compared += 1;
+        }
+    }
+    assert!(compared >= 20, "{compared} images are stored");
 }
 
 fn output_of(program: &str, input: &[u8]) -> Vec<u8> {
@@ -376,9 +531,24 @@ fn broken_stores_are_caught() {
     println!("Eager: {}", caught.expect_err("a broken store passed"));
 }
 
+/// How many images it takes to catch a store that is wrong in groups or editions.
+#[test]
+fn wrong_groups_are_caught() {
+    let seeds: Vec<u64> = (0..2_000).collect();
+    for wrong in WRONG_GROUPS {
+        let stores = [&Second as &dyn Store, leak(Stepwise(wrong))];
+        let Err(text) = compare_seeds(&seeds, |_| stores, &mut Tally::default()) else {
+            panic!("{wrong:?} was not caught");
+        };
+        println!("{wrong:?}: {text}");
+    }
+    let stores = [&Second as &dyn Store, leak(Stepwise(WrongGroup::Nothing))];
+    compare_seeds(&seeds, |_| stores, &mut Tally::default()).expect("nothing is wrong here");
+}
+
 #[test]
 fn wrong_pairings_are_caught() {
-    let seeds: Vec<u64> = (0..500).collect();
+    let seeds: Vec<u64> = (0..1_000).collect();
     for wrong in WRONG_PAIRINGS {
         let stores = [&Second as &dyn Store, leak(wrong)];
         let Err(text) = compare_seeds(&seeds, |_| stores, &mut Tally::default()) else {
@@ -388,13 +558,22 @@ fn wrong_pairings_are_caught() {
     }
 }
 
-/// A store that reads the byte after the image, and one that reads the byte before it.
+/// A store that reads the byte after what it is lent, the image or the group, and one that reads the byte before it.
 struct Overreaching {
     after: bool,
 }
 
+impl Overreaching {
+    fn byte_beside(&self, lent: &[u8]) -> u8 {
+        let bytes = lent.as_ptr();
+        let beside = if self.after { bytes.wrapping_add(lent.len()) } else { bytes.wrapping_sub(1) };
+        // SAFETY: none; this is the fault that the guard is there for.
+        unsafe { beside.read_volatile() }
+    }
+}
+
 impl Store for Overreaching {
-    fn format(&self, _: &mut [u8]) -> u8 {
+    fn format(&self, _: &mut [u8], _: Edition) -> u8 {
         SIZE
     }
     fn recover(&self, _: &mut [u8], _: u16) -> Stepped {
@@ -403,11 +582,11 @@ impl Store for Overreaching {
     fn write(&self, _: &mut [u8], _: u16, _: u8, _: u16) -> Stepped {
         Stepped::refused(SIZE)
     }
+    fn write_group(&self, _: &mut [u8], group: &[u8], _: u16) -> Stepped {
+        Stepped::refused(self.byte_beside(group))
+    }
     fn read(&self, image: &[u8], _: u16) -> Reading {
-        let bytes = image.as_ptr();
-        let beside = if self.after { bytes.wrapping_add(image.len()) } else { bytes.wrapping_sub(1) };
-        // SAFETY: none; this is the fault that the guard is there for.
-        Reading { number: OK, value: unsafe { beside.read_volatile() } }
+        Reading { number: OK, value: self.byte_beside(image) }
     }
     fn blank_read(&self, image: &[u8], address: u16) -> Reading {
         self.read(image, address)
@@ -417,21 +596,31 @@ impl Store for Overreaching {
     }
 }
 
+/// Reads the byte that OUTSIDE_DIES names, and dies of it.
+fn overreach(side: &str) {
+    let after = side.starts_with("after");
+    let place = if after { Place::BeforeEndGuard } else { Place::AfterStartGuard };
+    let store = Guarded::new(Overreaching { after }, place);
+    if side.ends_with("the image") {
+        store.read(&[255; 2_048], 0);
+    } else {
+        store.write_group(&mut [255; 2_048], &[5, 0, 65], 0);
+    }
+}
+
 /// The process that dies is this test program again, told by OUTSIDE_DIES which byte to read.
 #[test]
 fn the_guards_are_felt() {
     if let Ok(side) = std::env::var("OUTSIDE_DIES") {
-        let (after, place) =
-            (side == "after", if side == "after" { Place::BeforeEndGuard } else { Place::AfterStartGuard });
-        Guarded::new(Overreaching { after }, place).read(&[255; 2_048], 0);
-        return;
+        return overreach(&side);
     }
-    for side in ["after", "before"] {
+    for side in ["after the image", "before the image", "after the group", "before the group"] {
         let program = std::env::current_exe().unwrap();
         let mut command = Command::new(program);
         let output =
             command.args(["the_guards_are_felt", "--exact", "--nocapture"]).env("OUTSIDE_DIES", side).output().unwrap();
         let errors = String::from_utf8_lossy(&output.stderr);
-        assert!(!output.status.success() && errors.contains("memory outside the image was touched"), "{side} lived");
+        let died = !output.status.success() && errors.contains("memory outside the lent bytes was touched");
+        assert!(died, "a read of the byte {side} lived");
     }
 }

@@ -5,26 +5,23 @@
 
 use std::collections::BTreeMap;
 
+use outside::cases::{note, note_editions, note_groups, rare, Counts};
 use outside::images::image;
 use outside::page::*;
 use outside::rules::*;
 use outside::word::*;
 
-type Counts = BTreeMap<&'static str, u64>;
-
-fn note(counts: &mut Counts, name: &'static str, met: bool) {
-    *counts.entry(name).or_default() += u64::from(met);
-}
-
 fn look_at_pages(image: &[u8], counts: &mut Counts) {
+    let edition = edition(image);
     for page in image.chunks(PAGE_BYTES) {
-        let state = state(page);
+        let state = state(page, edition);
+        let wear = wear(page, edition);
         let done = word_at(page, DONE_OFFSET);
         let opening = order_and_kind_in(word_at(page, OPENING_OFFSET));
-        note(counts, "page of wear 0", wear(page) == Some(0));
-        note(counts, "page of wear 65,534", wear(page) == Some(65_534));
-        note(counts, "page of wear 65,535", wear(page) == Some(65_535));
-        note(counts, "sound wear word with another third byte", is_sound(word_at(page, 0)) && wear(page).is_none());
+        note(counts, "page of wear 0", wear == Some(0));
+        note(counts, "page of wear 65,534", wear == Some(65_534));
+        note(counts, "page of wear 65,535", wear == Some(65_535));
+        note(counts, "sound wear word with another third byte", is_sound(word_at(page, 0)) && wear.is_none());
         note(counts, "opening word of kind 0", opening.is_some_and(|(_, kind)| kind == 0));
         note(counts, "opening word of kind 3", opening.is_some_and(|(_, kind)| kind == DONE));
         note(counts, "open page of order 4,194,303", matches!(state, State::Open { order: LAST_ORDER, .. }));
@@ -42,9 +39,10 @@ fn look_at_pages(image: &[u8], counts: &mut Counts) {
 /// What the listing's count of broken words depends on, in a store that is accepted.
 fn look_at_slots(image: &[u8], counts: &mut Counts) {
     let used = used_pages(image);
+    let states = states(image);
     for (index, page) in image.chunks(PAGE_BYTES).enumerate() {
         let is_used = used.iter().any(|used| used.page == index);
-        let is_old = !is_used && matches!(state(page), State::Open { .. });
+        let is_old = !is_used && matches!(states[index], State::Open { .. });
         let not_active = is_used && index != used[0].page;
         let words: Vec<Word> = (0..SLOTS).map(|slot| slot_word(page, slot)).collect();
         let any = |wanted: fn(Word) -> bool| words.iter().any(|&word| wanted(word));
@@ -53,7 +51,7 @@ fn look_at_slots(image: &[u8], counts: &mut Counts) {
         let third_byte_255 = any(|word| condition(word) == Condition::Spoiled && word[2] == 255);
         let fourth_byte_255 = any(|word| condition(word) == Condition::Spoiled && word[3] == 255);
         let no_address = any(|word| is_sound(word) && word[..2] == [255, 255]);
-        let blank_between = words[..free_slot(page).unwrap_or(SLOTS)].contains(&BLANK);
+        let blank_between = words[..free_slots(page).start].contains(&BLANK);
         let done = condition(word_at(page, DONE_OFFSET));
         note(counts, "used page, half-written slot", is_used && half_written);
         note(counts, "used page, spoiled slot", is_used && spoiled);
@@ -109,8 +107,9 @@ fn look_at_store(image: &[u8], counts: &mut Counts) {
     }
     look_at_slots(image, counts);
     look_at_code(image, counts);
+    note_groups(image, counts);
     let cleared = cleared_pages(image);
-    let full = free_slot(page_at(image, active_page(image).page)).is_none();
+    let full = free_slots(page_at(image, active_page(image).page)).is_empty();
     let clean = unclean_pages(image).is_empty();
     let least = cleared.iter().map(|&(_, wear)| wear).min();
     let ties = cleared.iter().filter(|&&(_, wear)| Some(wear) == least).count();
@@ -122,11 +121,13 @@ fn look_at_store(image: &[u8], counts: &mut Counts) {
     note(counts, "active page full, 192 held", full && clean && held(image).len() == 192);
     note(counts, "gap in the orders", used.windows(2).any(|pair| pair[0].order > pair[1].order + 1));
     note(counts, "pages not in the order of their index", used.windows(2).any(|pair| pair[0].page < pair[1].page));
-    let unworn: Vec<usize> = (0..page_count(image)).filter(|&page| wear(page_at(image, page)).is_none()).collect();
+    let edition = edition(image);
+    let wear_of = |page| wear(page_at(image, page), edition);
+    let unworn: Vec<usize> = (0..page_count(image)).filter(|&page| wear_of(page).is_none()).collect();
     if unworn.len() > 1 {
         let unclean = unclean_pages(image);
-        let greatest = greatest_wear(image);
-        let of_used = used.iter().filter_map(|used| wear(page_at(image, used.page))).max();
+        let greatest = greatest_wear(image, edition);
+        let of_used = used.iter().filter_map(|used| wear_of(used.page)).max();
         let worn_first = unclean[0] < unworn[1] && !unworn.contains(&unclean[0]);
         note(counts, "several pages without a wear", true);
         note(counts, "several pages without a wear, greatest 65,533", greatest == 65_533);
@@ -152,6 +153,7 @@ fn the_makers_make_every_case() {
         }
         look_at_pages(&image, &mut counts);
         look_at_store(&image, &mut counts);
+        note_editions(&image, &mut counts);
     }
     println!("wrong lengths: {wrong_lengths:?}");
     for (name, count) in &counts {
@@ -160,7 +162,7 @@ fn the_makers_make_every_case() {
     assert!([0, 1, 1_023, 1_024, 1_025, 2_047, 2_049, 32_769, 33_792]
         .iter()
         .all(|length| wrong_lengths.contains_key(length)));
-    let rare: Vec<_> = counts.iter().filter(|(_, &count)| count < 5).collect();
+    let rare = rare(&counts, 5);
     assert!(rare.is_empty(), "hardly met: {rare:?}");
 }
 

@@ -1,18 +1,19 @@
-//! The power-cut run: histories of writes in which power fails at every step of every examined write, in several ways,
-//! and then in the recoveries after it. Demand 3 is tested through the store's own reads, blank reads and lookups.
+//! The power-cut run: histories of writes and group writes in which power fails at every step of every examined one, in
+//! several ways, and then in the recoveries after it. Demand 3 is tested through the store's own reads, blank reads and
+//! lookups.
 //!
 //! The steps come from a plan, the second implementation's; that the store under test does the same steps is tested by
 //! its image after each allowance. A broken store that this catches: a move that erases the old pages before the done
-//! word (clause 1). `broken_stores_are_caught` has one for each clause of demand 3; there the plan is the broken store's
-//! own, so that only the clauses can catch it. ISTROVELL_SEED runs one history alone.
+//! word (clause 1). `broken_stores_are_caught` and `wrong_groups_are_caught` have one for each clause of demand 3; there the
+//! plan is the broken store's own, so that only the clauses can catch it. ISTROVELL_SEED runs one history alone.
 
 use std::collections::BTreeMap;
 use std::time::Instant;
 
-use outside::broken::{Broken, Eager, WrongPairing, WRONG_PAIRINGS, WRONG_WEARS};
+use outside::broken::{Broken, Eager, WrongGroup, WrongPairing, WRONG_PAIRINGS, WRONG_WEARS};
 use outside::failing::*;
 use outside::guard::{note_seed, Guarded, Place};
-use outside::images::{fill_active, some_addresses, some_value};
+use outside::images::{fill_active, some_addresses, some_change, some_value};
 use outside::page::*;
 use outside::rng::{asked_for, Rng};
 use outside::rules::*;
@@ -30,8 +31,10 @@ const SUBJECT: Second = Second;
 enum Clause {
     /// Every other address answers as before.
     Others,
-    /// The written address answers as before or with the new value.
+    /// A written address answers as before or with its new value.
     Written,
+    /// The addresses of a group answer all as before or all with their new values.
+    Half,
     /// If a failure at one step leaves the new value, a failure at any later step leaves it too.
     Later,
     /// What a finished write puts at an address, a read finds; a finished recovery leaves nothing to recover.
@@ -48,6 +51,8 @@ type Outcome<T> = Result<T, (Clause, String)>;
 struct History {
     seed: u64,
     pages: usize,
+    /// In the second most writes are group writes.
+    edition: Edition,
     /// How many addresses are held from the start.
     held: usize,
     /// How many writes are examined.
@@ -80,8 +85,9 @@ impl Worn {
     /// Gives each page the greatest wear or one or two less, then takes the wear words from the cleared ones that are to
     /// have none.
     fn wear_out(self, image: &mut [u8]) {
+        let edition = edition(image);
         for (index, page) in image.chunks_exact_mut(PAGE_BYTES).enumerate() {
-            page[WEAR_OFFSET..WEAR_OFFSET + 4].copy_from_slice(&wear_word(self.greatest - index as u16 % 3));
+            page[WEAR_OFFSET..WEAR_OFFSET + 4].copy_from_slice(&wear_word(self.greatest - index as u16 % 3, edition));
         }
         for (page, _) in cleared_pages(image).into_iter().take(self.lost) {
             image[page * PAGE_BYTES..(page + 1) * PAGE_BYTES].fill(255);
@@ -92,18 +98,44 @@ impl Worn {
 #[derive(Default)]
 struct Report {
     failures: BTreeMap<(&'static str, Failing), u64>,
+    /// Of the failures, those in a group write.
+    failed_groups: u64,
     recoveries: BTreeMap<&'static str, u64>,
-    /// Examined writes and moves, by pages.
-    writes: BTreeMap<usize, u64>,
-    new_pages: BTreeMap<usize, u64>,
-    moves: BTreeMap<usize, u64>,
+    /// Examined writes and group writes, by what they do and by pages.
+    writes: BTreeMap<(Way, usize), u64>,
+    group_writes: BTreeMap<(Way, usize), u64>,
     left_old: u64,
     left_new: u64,
+    /// How often the history went on from an open group in a full page.
+    went_on_dead: u64,
     reads: u64,
     /// Lookups that found a pairing code, as they had to.
     codes: u64,
     lost: BTreeMap<Clause, u64>,
     first_lost: Option<String>,
+}
+
+/// What a write does.
+#[derive(Clone, Copy, Debug, PartialEq, Eq, PartialOrd, Ord)]
+enum Way {
+    Stays,
+    Appends,
+    OpensAPage,
+    Moves,
+}
+
+fn way(steps: &[Step]) -> Way {
+    match steps.first() {
+        None => Way::Stays,
+        _ if steps.iter().any(|step| matches!(step, Step::Erase { .. })) => Way::Moves,
+        Some(step) if step.bytes().start % PAGE_BYTES == OPENING_OFFSET => Way::OpensAPage,
+        Some(_) => Way::Appends,
+    }
+}
+
+/// Whether a recovery begins with the mark that abandons: it programs no other slot.
+fn abandons(steps: &[Step]) -> bool {
+    matches!(steps[0], Step::Program { offset, .. } if offset % PAGE_BYTES >= slot_offset(0))
 }
 
 impl Report {
@@ -117,18 +149,20 @@ impl Report {
     }
 
     fn print(&self) {
-        println!(
-            "  examined writes {:?}, of them new pages {:?}, moves {:?} (by pages)",
-            self.writes, self.new_pages, self.moves
-        );
-        println!("  failed writes: {}", self.failed_writes());
+        println!("  examined writes, by what they do and by pages: {:?}", self.writes);
+        println!("  examined group writes: {:?}", self.group_writes);
+        println!("  failed writes, groups among them: {}", self.failed_writes());
         for ((step, failing), count) in &self.failures {
             println!("    {step:7} {failing:?}: {count}");
         }
         println!("  recoveries: {:?}", self.recoveries);
-        println!("  left the old value {}, left the new value {}", self.left_old, self.left_new);
+        println!("  left the old values {}, left the new values {}", self.left_old, self.left_new);
+        println!("  went on from an open group in a full page {}", self.went_on_dead);
         println!("  reads {}, lookups that found a pairing code {}", self.reads, self.codes);
-        println!("  lost: {}", self.lost.values().sum::<u64>());
+        let lost: u64 = self.lost.values().sum();
+        println!("  lost: {lost}");
+        let by_half = self.lost.get(&Clause::Half).unwrap_or(&0);
+        println!("  {} group writes failed, {lost} lost, {by_half} seen by half", self.failed_groups);
     }
 }
 
@@ -143,18 +177,49 @@ struct Run<'a> {
     report: &'a mut Report,
 }
 
-/// A write in which power fails.
-#[derive(Clone, Copy, Debug)]
+/// A write or group write in which power fails.
+#[derive(Clone, Debug)]
 struct Written {
+    settings: Vec<Changed>,
+    grouped: bool,
+}
+
+/// What an address answers before and after.
+#[derive(Clone, Copy, Debug)]
+struct Changed {
     address: u16,
     old: Reading,
     new: Reading,
 }
 
-/// What a failure and the recoveries after it left: an image, and whether it has the new value.
+impl Written {
+    fn names(&self, address: u16) -> bool {
+        self.settings.iter().any(|changed| changed.address == address)
+    }
+}
+
+/// What the written addresses are to answer.
+#[derive(Clone, Copy, Debug)]
+enum Expected {
+    Old,
+    New,
+    Either,
+}
+
+/// What a failure and the recoveries after it left: an image, whether it has the new values, and whether a group is open
+/// where there is no slot for the mark that abandons.
 struct Left {
     image: Vec<u8>,
     new: bool,
+    dead: bool,
+}
+
+impl Left {
+    fn of(image: Vec<u8>, new: bool) -> Left {
+        let active = used_pages(&image).first().map(|active| page_at(&image, active.page));
+        let dead = active.is_some_and(|active| has_open_group(active, edition(&image)));
+        Left { image, new, dead }
+    }
 }
 
 fn held_or_not(value: Option<&u8>) -> Reading {
@@ -191,28 +256,28 @@ impl Run<'_> {
         let mut examined = 0;
         while examined < self.history.examined && self.report.lost.is_empty() {
             self.fast_forward(&mut image);
-            let (address, value) = self.some_write();
-            let steps =
-                self.plan.write_steps(&image, address, value).expect("the plan accepts the writes of a history");
-            if self.history.only_moves && steps.len() <= 4 {
-                self.write_quietly(&mut image, address, value);
+            let change = self.some_change(&image);
+            let steps = self.steps(&image, &change);
+            if self.history.only_moves && way(&steps) != Way::Moves {
+                self.change_quietly(&mut image, &change);
             } else {
-                image = self.examine_write(&image, address, value, &steps);
+                image = self.examine_change(&image, &change, &steps);
                 examined += 1;
             }
         }
     }
 
     fn begin(&mut self, image: &mut [u8]) -> Outcome<()> {
+        let edition = self.history.edition;
         let mut planned = image.to_vec();
-        for step in self.plan.format_steps(image).expect("the size is right") {
+        for step in self.plan.format_steps(image, edition).expect("the size is right") {
             do_step(&mut planned, step);
         }
-        let number = self.store.format(image);
+        let number = self.store.format(image, edition);
         demand(number == OK && image == planned, Clause::Steps, || format!("format answers {number}"))?;
         for index in 0..self.history.held {
             let value = some_value(&mut self.rng);
-            self.write_quietly(image, self.pool[index], value);
+            self.change_quietly(image, &Change::Single((self.pool[index], value)));
         }
         Ok(())
     }
@@ -227,7 +292,7 @@ impl Run<'_> {
         let steps = self.recovery_steps(image)?;
         let address = self.rng.pick(&self.pool);
         let same = held_or_not(self.model.get(&address));
-        let written = Written { address, old: same, new: same };
+        let written = Written { settings: vec![Changed { address, old: same, new: same }], grouped: false };
         for allowance in 0..steps.len() {
             self.check_recovery(&mut image.to_vec(), &steps, allowance as u16)?;
         }
@@ -237,12 +302,12 @@ impl Run<'_> {
                 let mut left = stages[at].clone();
                 fail(&mut left, step, failing, &mut self.rng);
                 *self.report.recoveries.entry("of a worn store, failing at each step").or_default() += 1;
-                let found = self.check_failure(&left, written)?;
-                self.recover_troubled(&mut left, written, found)?;
+                let found = self.check_answers(&left, &written, Expected::Either)?;
+                self.recover_troubled(&mut left, &written, found)?;
             }
         }
         self.finish_recovery(image)?;
-        self.check_failure(image, written).map(|_| ())
+        self.check_answers(image, &written, Expected::Either).map(|_| ())
     }
 
     /// Three digits of a pairing code are held, and power fails at every step of the write of the last.
@@ -251,76 +316,108 @@ impl Run<'_> {
         self.begin(&mut image)?;
         let address = self.pool.remove(last.place);
         for other in self.pool.clone() {
-            self.write_quietly(&mut image, other, last.digit);
+            self.change_quietly(&mut image, &Change::Single((other, last.digit)));
         }
-        if last.full {
-            fill_active(&mut image, SLOTS, &self.pool, &mut self.rng);
-            self.model = held(&image);
-        }
-        let steps = self.plan.write_steps(&image, address, last.digit).expect("the plan accepts the last digit");
+        self.fill_if(last.full, &mut image);
+        let change = Change::Single((address, last.digit));
+        let steps = self.steps(&image, &change);
         assert_eq!(steps.len(), last.steps, "{last:?}");
-        self.examine_write(&image, address, last.digit, &steps);
+        self.examine_change(&image, &change, &steps);
         Ok(())
     }
 
-    fn some_write(&mut self) -> (u16, u8) {
-        let address = self.rng.pick(&self.pool);
-        let value = some_value(&mut self.rng);
-        // Now and then the value already held, which takes no step.
-        let held = self.model.get(&address).copied();
-        (address, if self.rng.one_in(20) { held.unwrap_or(value) } else { value })
+    /// A code is written as a group, over another or where there was none, and power fails at every step.
+    fn write_a_code(&mut self, code: Code) -> Outcome<()> {
+        let mut image = vec![0x5A; code.pages * PAGE_BYTES];
+        self.begin(&mut image)?;
+        self.fill_if(code.full, &mut image);
+        let steps = self.steps(&image, &code.change());
+        assert_eq!(steps.len(), code.steps, "{code:?}");
+        self.examine_change(&image, &code.change(), &steps);
+        Ok(())
+    }
+
+    fn fill_if(&mut self, full: bool, image: &mut [u8]) {
+        if full {
+            let addresses: Vec<u16> = self.model.keys().copied().collect();
+            fill_active(image, SLOTS, &addresses, &mut self.rng);
+            self.model = held(image);
+        }
+    }
+
+    fn steps(&self, image: &[u8], change: &Change) -> Vec<Step> {
+        self.plan.change_steps(image, change).expect("the plan accepts the writes of a history")
+    }
+
+    /// Now and then it has the values already held, and takes no step.
+    fn some_change(&mut self, image: &[u8]) -> Change {
+        let mut change = some_change(image, &self.pool, &mut self.rng);
+        if self.rng.one_in(20) {
+            for (address, value) in change.settings_mut() {
+                *value = self.model.get(address).copied().unwrap_or(*value);
+            }
+        }
+        change
     }
 
     /// Does all steps of the plan, without a failure.
-    fn write_quietly(&mut self, image: &mut [u8], address: u16, value: u8) {
-        for step in self.plan.write_steps(image, address, value).expect("the plan accepts the writes of a history") {
+    fn change_quietly(&mut self, image: &mut [u8], change: &Change) {
+        for step in self.steps(image, change) {
             do_step(image, step);
         }
-        self.model.insert(address, value);
+        self.model.extend(change.settings().iter().copied());
     }
 
     /// Goes on to where the next page is needed, or some writes nearer to it.
     fn fast_forward(&mut self, image: &mut [u8]) {
         if self.history.fast && self.rng.one_in(2) {
             let addresses: Vec<u16> = self.model.keys().copied().collect();
-            let room = SLOTS - free_slot(page_at(image, active_page(image).page)).unwrap_or(SLOTS);
-            fill_active(image, room - self.rng.below(3).min(room), &addresses, &mut self.rng);
+            let room = free_slots(page_at(image, active_page(image).page)).len();
+            let left = if self.history.edition == Edition::Second { 12 } else { 3 };
+            fill_active(image, room.saturating_sub(self.rng.below(left)), &addresses, &mut self.rng);
             self.model = held(image);
         } else if !self.history.fast {
             for _ in 0..self.rng.below(4) {
-                let (address, value) = self.some_write();
-                if self.plan.write_steps(image, address, value).is_ok_and(|steps| steps.len() <= 2) {
-                    self.write_quietly(image, address, value);
+                let change = self.some_change(image);
+                if matches!(way(&self.steps(image, &change)), Way::Stays | Way::Appends) {
+                    self.change_quietly(image, &change);
                 }
             }
         }
     }
 
-    /// Power fails at every step of this write. Gives the image from which the history goes on: that of the finished
+    /// Power fails at every step of this change. Gives the image from which the history goes on: that of the finished
     /// write, or one that a failure and its recoveries left.
-    fn examine_write(&mut self, image: &[u8], address: u16, value: u8, steps: &[Step]) -> Vec<u8> {
-        let old = held_or_not(self.model.get(&address));
-        let written = Written { address, old, new: Reading { number: OK, value } };
-        self.count_write(steps);
+    fn examine_change(&mut self, image: &[u8], change: &Change, steps: &[Step]) -> Vec<u8> {
+        let changed = |&(address, value): &Setting| {
+            let old = held_or_not(self.model.get(&address));
+            Changed { address, old, new: Reading { number: OK, value } }
+        };
+        let grouped = matches!(change, Change::Group(_));
+        let written = Written { settings: change.settings().iter().map(changed).collect(), grouped };
+        self.count_change(change, steps);
         let stages = stages(image, steps);
-        if let Err(lost) = self.check_allowances(image, written, &stages) {
+        if let Err(lost) = self.check_allowances(change, &written, &stages) {
             self.report.lose(lost);
         }
-        let mut next = Left { image: stages[steps.len()].clone(), new: true };
+        let mut next = Left::of(stages[steps.len()].clone(), true);
         let mut new_before = None;
         for (at, &step) in steps.iter().enumerate() {
-            let left = self.examine_step(&stages[at], step, at, written, new_before);
+            let left = self.examine_step(&stages[at], step, at, &written, new_before);
             if left.iter().any(|left| left.new) {
                 new_before = new_before.or(Some(at));
             }
             for left in left {
-                if self.rng.one_in(2 * self.history.ways * steps.len()) {
+                // What stands behind a dead group is to be met too, and there are few.
+                let chances = if left.dead { 2 } else { 2 * self.history.ways * steps.len() };
+                if self.rng.one_in(chances) {
                     next = left;
                 }
             }
         }
+        self.report.went_on_dead += u64::from(next.dead);
         if next.new {
-            self.model.insert(address, value);
+            self.model.extend(change.settings().iter().copied());
         }
         next.image
     }
@@ -331,18 +428,18 @@ impl Run<'_> {
         before: &[u8],
         step: Step,
         at: usize,
-        written: Written,
+        written: &Written,
         new_before: Option<usize>,
     ) -> Vec<Left> {
         let mut all_left = Vec::new();
         for failing in self.ways_to_fail(step) {
             let mut image = before.to_vec();
             fail(&mut image, step, failing, &mut self.rng);
-            self.count_failure(step, failing);
+            self.count_failure(step, failing, written.grouped);
             let outcome =
                 self.examine_failure(&mut image, written).and_then(|new| later(new, new_before).map(|()| new));
             match outcome {
-                Ok(new) => all_left.push(Left { image, new }),
+                Ok(new) => all_left.push(Left::of(image, new)),
                 Err((clause, text)) => self
                     .report
                     .lose((clause, format!("{text}, after {failing:?} in step {at}, {step:?}, of {written:?}"))),
@@ -358,30 +455,29 @@ impl Run<'_> {
         ways
     }
 
-    fn count_write(&mut self, steps: &[Step]) {
-        let pages = self.history.pages;
-        *self.report.writes.entry(pages).or_default() += 1;
-        match steps.len() {
-            0..=2 => {}
-            4 => *self.report.new_pages.entry(pages).or_default() += 1,
-            _ => *self.report.moves.entry(pages).or_default() += 1,
-        }
+    fn count_change(&mut self, change: &Change, steps: &[Step]) {
+        let counts = match change {
+            Change::Single(_) => &mut self.report.writes,
+            Change::Group(_) => &mut self.report.group_writes,
+        };
+        *counts.entry((way(steps), self.history.pages)).or_default() += 1;
     }
 
-    fn count_failure(&mut self, step: Step, failing: Failing) {
+    fn count_failure(&mut self, step: Step, failing: Failing, grouped: bool) {
         let name = if matches!(step, Step::Erase { .. }) { "erase" } else { "program" };
         *self.report.failures.entry((name, failing)).or_default() += 1;
+        self.report.failed_groups += u64::from(grouped);
     }
 
     /// The store does the plan's steps, and what it finished it finds.
-    fn check_allowances(&mut self, image: &[u8], written: Written, stages: &[Vec<u8>]) -> Outcome<()> {
+    fn check_allowances(&mut self, change: &Change, written: &Written, stages: &[Vec<u8>]) -> Outcome<()> {
         let steps = stages.len() - 1;
-        self.check_answers(image, written, |answer| answer == written.old)?;
-        self.check_answers(&stages[steps], written, |answer| answer == written.new)?;
+        self.check_answers(&stages[0], written, Expected::Old)?;
+        self.check_answers(&stages[steps], written, Expected::New)?;
         for allowance in (0..=steps).chain([usize::from(u16::MAX)]) {
             let done = allowance.min(steps);
-            let mut after = image.to_vec();
-            let answer = self.store.write(&mut after, written.address, written.new.value, allowance as u16);
+            let mut after = stages[0].clone();
+            let answer = self.store.change(&mut after, change, allowance as u16);
             let expected = Stepped { number: OK, finished: done == steps, steps: done as u16 };
             let same = answer == expected && after == stages[done];
             demand(same, Clause::Steps, || {
@@ -391,10 +487,10 @@ impl Run<'_> {
         Ok(())
     }
 
-    /// The three clauses on an image that a failure left, and after each of several recoveries, the last of which
-    /// finishes. Says whether the new value is there.
-    fn examine_failure(&mut self, image: &mut [u8], written: Written) -> Outcome<bool> {
-        let new = self.check_failure(image, written)?;
+    /// The clauses on an image that a failure left, and after each of several recoveries, the last of which finishes. Says
+    /// whether the new values are there.
+    fn examine_failure(&mut self, image: &mut [u8], written: &Written) -> Outcome<bool> {
+        let new = self.check_answers(image, written, Expected::Either)?;
         self.recover_troubled(image, written, new)?;
         if new {
             self.report.left_new += 1;
@@ -405,50 +501,70 @@ impl Run<'_> {
     }
 
     /// Recoveries that change no answer, the last of which finishes.
-    fn recover_troubled(&mut self, image: &mut [u8], written: Written, new: bool) -> Outcome<()> {
+    fn recover_troubled(&mut self, image: &mut [u8], written: &Written, new: bool) -> Outcome<()> {
         for _ in 0..self.rng.below(3) {
             self.fail_in_a_recovery(image)?;
-            let still = self.check_failure(image, written)?;
+            let still = self.check_answers(image, written, Expected::Either)?;
             demand(still == new, Clause::Written, || format!("a recovery turned new {new} into new {still}"))?;
         }
         self.finish_recovery(image)?;
-        let still = self.check_failure(image, written)?;
+        let still = self.check_answers(image, written, Expected::Either)?;
         demand(still == new, Clause::Written, || format!("the last recovery turned new {new} into new {still}"))
     }
 
-    fn check_failure(&mut self, image: &[u8], written: Written) -> Outcome<bool> {
-        let answer = self.check_answers(image, written, |answer| answer == written.old || answer == written.new)?;
-        Ok(answer == written.new)
-    }
-
-    /// Reads the written address, as many others as the history says, and one that was never written.
-    fn check_answers(&mut self, image: &[u8], written: Written, right: impl Fn(Reading) -> bool) -> Outcome<Reading> {
+    /// Reads the written addresses, as many others as the history says, and one that was never written. Says whether the
+    /// new values are there.
+    fn check_answers(&mut self, image: &[u8], written: &Written, expected: Expected) -> Outcome<bool> {
         let start = self.rng.below(self.pool.len());
         let never = (0..65_535).find(|address| !self.pool.contains(address));
         let others =
             (0..self.pool.len().min(self.history.watched)).map(|index| self.pool[(start + index) % self.pool.len()]);
-        for address in others.chain(never).filter(|&address| address != written.address) {
+        for address in others.chain(never).filter(|&address| !written.names(address)) {
             let before = held_or_not(self.model.get(&address));
             let answer = self.store.read(image, address);
             self.report.reads += 1;
             demand(answer == before, Clause::Others, || format!("{address} answered {before:?}, now {answer:?}"))?;
         }
-        let answer = self.store.read(image, written.address);
-        self.report.reads += 1;
-        let clause = if right(written.old) { Clause::Written } else { Clause::Finished };
-        demand(right(answer), clause, || format!("the written address answers {answer:?}"))?;
-        self.check_blank(image, written.address, answer)?;
-        Ok(answer)
+        let (old, new) = self.check_written(image, written)?;
+        let (right, clause) = match expected {
+            Expected::Old => (old, Clause::Written),
+            Expected::New => (new, Clause::Finished),
+            Expected::Either => (true, Clause::Written),
+        };
+        demand(right, clause, || format!("{written:?} is not {expected:?}"))?;
+        Ok(new)
     }
 
-    /// The lookup takes the written address as it reads now, and the others as before. So a code that was whole stays whole,
-    /// and one that the write completes is whole exactly if the new value is there.
-    fn check_blank(&mut self, image: &[u8], written: u16, read: Reading) -> Outcome<()> {
-        let blank = self.store.blank_read(image, written);
-        demand(blank == Reading { number: OK, value: read.value }, Clause::Blank, || {
-            format!("the written address answers {read:?}, and blank {blank:?}")
-        })?;
-        let reads = |address| if address == written { read } else { held_or_not(self.model.get(&address)) };
+    /// All the written addresses answer as before, or all with their new values, or both if these are the same.
+    fn check_written(&mut self, image: &[u8], written: &Written) -> Outcome<(bool, bool)> {
+        let mut answers = BTreeMap::new();
+        for changed in &written.settings {
+            let answer = self.store.read(image, changed.address);
+            self.report.reads += 1;
+            demand(answer == changed.old || answer == changed.new, Clause::Written, || {
+                format!("the written address {} answers {answer:?}", changed.address)
+            })?;
+            answers.insert(changed.address, answer);
+        }
+        let all = |wanted: fn(&Changed) -> Reading| {
+            written.settings.iter().all(|changed| answers[&changed.address] == wanted(changed))
+        };
+        let (old, new) = (all(|changed| changed.old), all(|changed| changed.new));
+        demand(old || new, Clause::Half, || format!("half of a group is there: {answers:?}"))?;
+        self.check_blank(image, &answers)?;
+        Ok((old, new))
+    }
+
+    /// The lookup takes the written addresses as they read now, and the others as before. So a code that was whole stays
+    /// whole, and one that the write completes is whole exactly if the new values are there.
+    fn check_blank(&mut self, image: &[u8], written: &BTreeMap<u16, Reading>) -> Outcome<()> {
+        for (&address, read) in written {
+            let blank = self.store.blank_read(image, address);
+            demand(blank == Reading { number: OK, value: read.value }, Clause::Blank, || {
+                format!("the written address {address} answers {read:?}, and blank {blank:?}")
+            })?;
+        }
+        let reads = |address| written.get(&address).copied().unwrap_or_else(|| held_or_not(self.model.get(&address)));
         let code = [16, 17, 18, 19].map(reads);
         let paired = code.iter().all(|read| read.number == OK);
         let found = self.store.lookup(image);
@@ -474,18 +590,27 @@ impl Run<'_> {
             *self.report.recoveries.entry("cut by allowance").or_default() += 1;
             return self.check_recovery(image, &steps, at as u16);
         }
-        *self.report.recoveries.entry("with a failing step").or_default() += 1;
+        let name = if at < 2 && abandons(&steps) { "with a failing abandon mark" } else { "with another failing step" };
+        *self.report.recoveries.entry(name).or_default() += 1;
         steps[..at].iter().for_each(|&step| do_step(image, step));
         fail_somehow(image, steps[at], &mut self.rng);
         Ok(())
     }
 
+    /// A recovery that finishes leaves nothing to recover, and a store that accepts a write.
     fn finish_recovery(&mut self, image: &mut [u8]) -> Outcome<()> {
         let steps = self.recovery_steps(image)?;
         *self.report.recoveries.entry("finished").or_default() += 1;
         self.check_recovery(image, &steps, u16::MAX)?;
         let left = self.recovery_steps(image)?;
-        demand(left.is_empty(), Clause::Finished, || format!("a finished recovery leaves {left:?}"))
+        demand(left.is_empty(), Clause::Finished, || format!("a finished recovery leaves {left:?}"))?;
+        let setting = (self.pool[0], some_value(&mut self.rng));
+        let change = match self.history.edition {
+            Edition::First => Change::Single(setting),
+            Edition::Second => Change::Group(vec![setting]),
+        };
+        let number = self.store.change(&mut image.to_vec(), &change, 0).number;
+        demand(number == OK, Clause::Finished, || format!("after a finished recovery {change:?} answers {number}"))
     }
 
     /// The store's recovery, which does the plan's steps.
@@ -523,6 +648,7 @@ fn run(history: History, store: &dyn Store, plan: &dyn Plan, report: &mut Report
 const PLAIN_RUN: History = History {
     seed: 0,
     pages: 2,
+    edition: Edition::First,
     held: 6,
     examined: 0,
     fast: false,
@@ -555,6 +681,34 @@ const HISTORIES: [History; 11] = [
     History { seed: 11, pages: 32, held: 192, ways: 3, watched: 3, ..MOVE },
 ];
 
+/// Most writes are group writes in the second edition.
+const IN_GROUPS: History = History { edition: Edition::Second, ..PLAIN_RUN };
+const GROUPED: [History; 9] = [
+    History { seed: 21, examined: 50, ..IN_GROUPS },
+    History { seed: 22, held: 12, examined: 15, fast: true, ..IN_GROUPS },
+    History { seed: 23, pages: 3, examined: 50, ..IN_GROUPS },
+    History { seed: 24, pages: 3, held: 20, examined: 18, fast: true, ..IN_GROUPS },
+    History { seed: 25, pages: 8, held: 10, examined: 16, watched: 6, fast: true, ..IN_GROUPS },
+    History { seed: 26, pages: 32, held: 5, examined: 30, ways: 4, watched: 4, fast: true, ..IN_GROUPS },
+    History { seed: 27, pages: 2, held: 190, examined: 1, ways: 3, fast: true, only_moves: true, ..IN_GROUPS },
+    History {
+        seed: 28,
+        pages: 32,
+        held: 10,
+        examined: 1,
+        ways: 4,
+        watched: 4,
+        fast: true,
+        only_moves: true,
+        ..IN_GROUPS
+    },
+    History { seed: 29, pages: 5, held: 8, examined: 10, fast: true, worn: worn(65_534, 3), ..IN_GROUPS },
+];
+
+/// What it takes to catch a store that is wrong in groups.
+const GROUPS_IN_FEW_WAYS: History =
+    History { seed: 31, held: 4, examined: 200, ways: 5, watched: 3, fast: true, ..IN_GROUPS };
+
 /// A write that completes a pairing code.
 #[derive(Clone, Copy, Debug)]
 struct LastDigit {
@@ -578,22 +732,69 @@ fn last_digits() -> Vec<LastDigit> {
     all
 }
 
-fn complete_a_code(last: LastDigit, store: &dyn Store) -> Report {
+/// A group write of a pairing code.
+#[derive(Clone, Copy, Debug)]
+struct Code {
+    digits: [u8; 4],
+    pages: usize,
+    /// How many of the digits are held before, with other values than these.
+    held: usize,
+    /// Whether the active page is full.
+    full: bool,
+    steps: usize,
+}
+
+impl Code {
+    /// Not by rising address, because a group need not be.
+    fn change(self) -> Change {
+        let [first, second, third, fourth] = self.digits;
+        Change::Group(vec![(18, third), (16, first), (19, fourth), (17, second)])
+    }
+}
+
+/// Over no code, a part of one and a whole one; from the free slot on, into a new page, and by a move.
+fn codes() -> Vec<Code> {
+    let mut all = Vec::new();
+    for (digits, held) in [([7, 1, 3, 9], 0), ([0, 0, 0, 0], 1), ([255, 0, 255, 8], 3), ([0, 255, 7, 0], 4)] {
+        for (pages, full, steps) in [(2, false, 12), (3, true, 14), (2, true, 2 * (4 + 1) + 4 + 3)] {
+            all.push(Code { digits, pages, held, full, steps });
+        }
+    }
+    all
+}
+
+/// A run of this length and edition that begins with these addresses, of which the first are held.
+fn run_alone(
+    store: &dyn Store,
+    history: History,
+    pool: Vec<u16>,
+    examine: impl FnOnce(&mut Run) -> Outcome<()>,
+) -> Report {
     let mut report = Report::default();
-    let history = History { pages: last.pages, held: 0, ..PLAIN_RUN };
-    let (rng, pool) = (Rng::new(history.seed), (16..20).collect());
+    let rng = Rng::new(history.seed);
     let mut run = Run { store, plan: &Second, history, rng, pool, model: BTreeMap::new(), report: &mut report };
-    if let Err(lost) = run.complete_a_code(last) {
+    if let Err(lost) = examine(&mut run) {
         report.lose(lost);
     }
     report
+}
+
+fn complete_a_code(last: LastDigit, store: &dyn Store) -> Report {
+    let history = History { pages: last.pages, held: 0, ..PLAIN_RUN };
+    run_alone(store, history, (16..20).collect(), |run| run.complete_a_code(last))
+}
+
+/// Beside the digits one other address is held, so that a page can be filled where no digit is.
+fn write_a_code(code: Code, store: &dyn Store) -> Report {
+    let history = History { pages: code.pages, held: 1 + code.held, edition: Edition::Second, ..PLAIN_RUN };
+    run_alone(store, history, vec![300, 16, 17, 18, 19], |run| run.write_a_code(code))
 }
 
 #[test]
 fn power_cuts_lose_nothing() {
     let mut report = Report::default();
     let guarded = [Place::AfterStartGuard, Place::BeforeEndGuard].map(|place| Guarded::new(SUBJECT, place));
-    let all = HISTORIES.into_iter().chain(WORN);
+    let all = HISTORIES.into_iter().chain(WORN).chain(GROUPED);
     let asked: Vec<History> = all.clone().filter(|history| asked_for(history.seed)).collect();
     for &history in &asked {
         let begin = Instant::now();
@@ -606,10 +807,14 @@ fn power_cuts_lose_nothing() {
     report.print();
     assert_eq!(report.first_lost, None);
     if asked.len() == all.count() {
-        assert!(report.failed_writes() >= 10_000);
-        assert!([2, 3, 32].iter().all(|pages| report.moves.contains_key(pages)));
-        assert!([3, 8, 32].iter().all(|pages| report.new_pages.contains_key(pages)));
-        assert!(report.codes > 0);
+        assert!(report.failed_writes() >= 20_000 && report.failed_groups >= 10_000);
+        for counts in [&report.writes, &report.group_writes] {
+            assert!([2, 3, 8, 32].iter().all(|&pages| counts.contains_key(&(Way::Appends, pages))));
+            assert!([3, 8, 32].iter().all(|&pages| counts.contains_key(&(Way::OpensAPage, pages))));
+            assert!([2, 3, 32].iter().all(|&pages| counts.contains_key(&(Way::Moves, pages))));
+        }
+        assert!(report.recoveries.contains_key("with a failing abandon mark"));
+        assert!(report.went_on_dead > 0 && report.codes > 0);
     }
 }
 
@@ -620,6 +825,16 @@ fn a_code_is_completed_or_not() {
         let report = complete_a_code(last, &SUBJECT);
         assert_eq!(report.first_lost, None, "{last:?}");
         assert!(report.left_old > 0 && report.left_new > 0 && report.codes > 0, "{last:?}");
+    }
+}
+
+/// The lookup gives the old code or the new one, and failures in each such write leave both.
+#[test]
+fn a_code_written_as_a_group_is_old_or_new() {
+    for code in codes() {
+        let report = write_a_code(code, &SUBJECT);
+        assert_eq!(report.first_lost, None, "{code:?}");
+        assert!(report.left_old > 0 && report.left_new > 0 && report.codes > 0, "{code:?}");
     }
 }
 
@@ -671,5 +886,39 @@ fn wrong_pairings_are_caught() {
         let clause = if wrong == WrongPairing::BlankIsHeld { Clause::Steps } else { Clause::Blank };
         let caught = last_digits().into_iter().find(|&last| complete_a_code(last, &wrong).lost.contains_key(&clause));
         assert!(caught.is_some(), "{wrong:?} was not caught by {clause:?}");
+    }
+}
+
+/// With their own plan and by a clause that they break, as the broken stores are. A finished write that is lost shows in
+/// whatever the history examines next.
+#[test]
+fn wrong_groups_are_caught() {
+    const A_WRITE_IS_LOST: &[Clause] = &[Clause::Others, Clause::Written, Clause::Finished];
+    let caught: [(WrongGroup, &[Clause]); 11] = [
+        (WrongGroup::NoMarks, &[Clause::Half]),
+        (WrongGroup::OpenCounts, &[Clause::Half]),
+        (WrongGroup::AbandonedCounts, &[Clause::Half]),
+        (WrongGroup::FewSlotsWithoutMarks, &[Clause::Half]),
+        (WrongGroup::Split, &[Clause::Half]),
+        (WrongGroup::ClosesInstead, &[Clause::Written]),
+        (WrongGroup::NoAbandon, &[Clause::Finished]),
+        (WrongGroup::DeadIsUnclean, &[Clause::Finished]),
+        (WrongGroup::RenewsFirst, &[Clause::Finished]),
+        (WrongGroup::OpenIsNothing, A_WRITE_IS_LOST),
+        (WrongGroup::GoesOn, A_WRITE_IS_LOST),
+    ];
+    for (wrong, clauses) in caught {
+        let plans: [&dyn Plan; 2] = [&wrong, &Second];
+        let [own, other] = plans.map(|plan| {
+            let mut report = Report::default();
+            for pages in [3, 2] {
+                run(History { pages, ..GROUPS_IN_FEW_WAYS }, &Stepwise(wrong), plan, &mut report);
+            }
+            report.lost
+        });
+        println!("{wrong:?}: {own:?}, by the other plan {other:?}");
+        assert!(clauses.iter().any(|clause| own.contains_key(clause)), "{wrong:?} was not caught by {clauses:?}");
+        let by_the_same = clauses.iter().any(|clause| other.contains_key(clause));
+        assert!(by_the_same || other.contains_key(&Clause::Steps), "{wrong:?}: {other:?}");
     }
 }

@@ -13,6 +13,7 @@ use outside::images::{fill_active, image, some_addresses};
 use outside::page::*;
 use outside::rng::Rng;
 use outside::rules::*;
+use outside::word::*;
 use outside::*;
 
 const MOST_STACK: usize = 4_096;
@@ -24,6 +25,7 @@ extern "C" {
     fn istrovell_format();
     fn istrovell_recover();
     fn istrovell_write();
+    fn istrovell_write_group();
     fn istrovell_read();
     fn istrovell_blank_read();
     fn istrovell_lookup();
@@ -31,24 +33,36 @@ extern "C" {
 
 type Function = unsafe extern "C" fn();
 
-/// The exports by name, each with what follows pointer and length in its call.
-fn calls(address: u16, value: u8) -> [(&'static str, Function, [u64; 3]); 6] {
-    let (address, value, all) = (u64::from(address), u64::from(value), u64::from(u16::MAX));
+const NAMES: [&str; 7] = ["format", "recovery", "write", "group write", "read", "blank read", "lookup"];
+
+/// The exports, each with what follows pointer and length in its call.
+fn calls(setting: Setting, group: &[u8]) -> [(Function, [u64; 3]); 7] {
+    let (address, value, all) = (u64::from(setting.0), u64::from(setting.1), u64::from(u16::MAX));
+    let (group, group_length) = (group.as_ptr() as u64, group.len() as u64);
     [
-        ("format", istrovell_format, [0; 3]),
-        ("recovery", istrovell_recover, [all, 0, 0]),
-        ("write", istrovell_write, [address, value, all]),
-        ("read", istrovell_read, [address, 0, 0]),
-        ("blank read", istrovell_blank_read, [address, 0, 0]),
-        ("lookup", istrovell_lookup, [0; 3]),
+        (istrovell_format, [1, 0, 0]),
+        (istrovell_recover, [all, 0, 0]),
+        (istrovell_write, [address, value, all]),
+        (istrovell_write_group, [group, group_length, all]),
+        (istrovell_read, [address, 0, 0]),
+        (istrovell_blank_read, [address, 0, 0]),
+        (istrovell_lookup, [0; 3]),
     ]
+}
+
+/// Eight settings that change something: of held addresses, and of others if there are fewer.
+fn eight_settings(image: &[u8]) -> Vec<Setting> {
+    let held = if test_store(image).is_ok() { held(image) } else { Default::default() };
+    let others = (0..).filter(|address| !held.contains_key(address)).map(|address| (address, 1));
+    let changed = held.iter().map(|(&address, value)| (address, value.wrapping_add(1)));
+    changed.chain(others).take(MOST_IN_A_GROUP).collect()
 }
 
 /// Calls the function on the stack that ends at `top`; gives the answer's register.
 ///
 /// # Safety
-/// The function takes pointer, length and at most three numbers, and answers in one register; the stack is large, aligned
-/// to 16, and for this call alone.
+/// The function takes pointer, length and at most three more words, a group's pointer and length among them, which live
+/// through the call; it answers in one register; the stack is large, aligned to 16, and for this call alone.
 #[cfg(target_arch = "x86_64")]
 unsafe fn call_at(top: *mut u128, function: Function, image: &mut [u8], rest: [u64; 3]) -> u64 {
     let answer: u64;
@@ -119,16 +133,16 @@ fn painted_stack() -> Vec<u128> {
 fn images_of(pages: usize, count: usize) -> Vec<Vec<u8>> {
     let is_of = |image: &Vec<u8>| image.len() == pages * PAGE_BYTES;
     let mut images: Vec<Vec<u8>> = (0..).map(image).filter(is_of).take(count).collect();
-    images.extend(full_stores(pages));
+    images.extend(EDITIONS.into_iter().flat_map(|edition| full_stores(pages, edition)));
     images
 }
 
 /// A store of 192 addresses with one page used and full, and so on to all but one: the last write moves.
-fn full_stores(pages: usize) -> Vec<Vec<u8>> {
+fn full_stores(pages: usize, edition: Edition) -> Vec<Vec<u8>> {
     let mut rng = Rng::new(pages as u64);
     let addresses = some_addresses(&mut rng, MOST_HELD);
     let mut image = vec![0; pages * PAGE_BYTES];
-    format(&mut image);
+    format(&mut image, edition);
     for &address in &addresses {
         assert!(write(&mut image, address, rng.byte(), u16::MAX).finished);
     }
@@ -146,30 +160,32 @@ fn full_stores(pages: usize) -> Vec<Vec<u8>> {
 fn each_call_uses_at_most_4_kb() {
     let mut stack = painted_stack();
     for (pages, count) in [(2, 300), (32, 40)] {
-        let mut most = [0; 6];
-        let mut numbers = [false; 9];
+        let mut most = [0; 7];
+        let mut numbers = [[false; 10]; 7];
         for image in images_of(pages, count) {
-            let address = if test_store(&image).is_ok() { held(&image).into_keys().next() } else { None }.unwrap_or(7);
-            let other = blank_read(&image, address).value.wrapping_add(1);
-            for (index, (name, function, rest)) in calls(address, other).into_iter().enumerate() {
+            let settings = eight_settings(&image);
+            let group = group_bytes(&settings);
+            for (index, (function, rest)) in calls(settings[0], &group).into_iter().enumerate() {
                 let (number, depth) = used(&mut stack, function, &image, rest);
-                assert!(depth <= MOST_STACK, "{name} at {pages} pages used {depth} bytes of stack");
+                assert!(depth <= MOST_STACK, "{} at {pages} pages used {depth} bytes of stack", NAMES[index]);
                 most[index] = depth.max(most[index]);
-                numbers[usize::from(number)] = true;
+                numbers[index][usize::from(number)] = true;
             }
         }
-        assert!(numbers[usize::from(OK)] && numbers[usize::from(DAMAGED)] && numbers[usize::from(UNCLEAN)]);
-        println!("bytes of stack at {pages} pages, format, recovery, write, read, blank read, lookup: {most:?}");
+        assert!(numbers.iter().all(|numbers| numbers[usize::from(OK)]), "a call was never accepted");
+        assert!(numbers[3][usize::from(DAMAGED)] && numbers[3][usize::from(UNCLEAN)] && numbers[3][usize::from(GROUP)]);
+        println!("bytes of stack at {pages} pages: {:?}", NAMES.iter().zip(most).collect::<Vec<_>>());
     }
 }
 
-/// A move at 32 pages is among the images: the longest call there is.
+/// Moves at 32 pages are among the images: the longest calls there are, the group write's as long as the write's.
 #[test]
-fn the_longest_write_is_measured() {
-    let image = full_stores(32).pop().unwrap();
-    let address = held(&image).into_keys().next().unwrap();
-    let steps = write_steps(&image, address, read(&image, address).value.wrapping_add(1)).unwrap();
-    assert_eq!(steps.len(), 481);
+fn the_longest_writes_are_measured() {
+    let image = full_stores(32, Edition::Second).pop().unwrap();
+    let settings = eight_settings(&image);
+    for change in [Change::Single(settings[0]), Change::Group(settings)] {
+        assert_eq!(change_steps(&image, &change).unwrap().len(), 481);
+    }
 }
 
 unsafe extern "C" fn deep() {

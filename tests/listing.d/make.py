@@ -26,6 +26,14 @@ def record(address, value):
     return number(address | value << 16)
 
 
+def opens(n):
+    return record(65535, n)
+
+
+def closes(n):
+    return record(65535, 128 + n)
+
+
 def page(*words):
     return b"".join(words).ljust(1024, b"\xff")
 
@@ -40,6 +48,12 @@ def moved(order, records, n=1):
 
 def cleared(n=1):
     return page(wear(n))
+
+
+def second(image):
+    """The same with the wear words of edition 2."""
+    pages = [image[k : k + 1024] for k in range(0, len(image), 1024)]
+    return b"".join(checked(p[0], p[1], 2) + p[4:] for p in pages)
 
 
 EXAMPLE_12 = plain(0, [record(5, 65), record(7, 200), record(5, 66)]) + cleared()
@@ -64,6 +78,35 @@ def worn():
     return b"".join(pages + [cleared(k) for k in range(32 - len(pages))])
 
 
+ABANDONS = record(65535, 0)
+
+
+def row(text, k):
+    """A row of X12: a and b are records of the addresses k and k + 1."""
+    words = {"a": record(k, 65), "b": record(k + 1, 66), "sp": SPOILED, "hw": HALF, "--": BLANK, "ab": ABANDONS}
+    words.update(("o%d" % n, opens(n)) for n in range(1, 9))
+    words.update(("c%d" % n, closes(n)) for n in range(1, 9))
+    return [words[name] for name in text.split()]
+
+
+def groups():
+    """Groups that count and groups that do not, one behind the other: a mark that abandons ends what a row leaves open. Behind
+    them are values that no mark has; and each used page ends in an open group, the older one being full."""
+    rows = ["o2 a b c2", "o1 a c1 b", "o2 a b c1", "o1 a b c1", "o2 a c2", "o2 a sp c2", "o2 a -- c2", "o2 a b sp c2"]
+    rows += ["o2 a hw c2", "o2 a ab b", "o2 a o1 b c1", "o2 a o2 b c2", "c2 a ab b", "o2 a b sp", "o8 a b b b b b b b c8"]
+    words = [word for k, text in enumerate(rows) for word in row(text, 100 + 2 * k) + [ABANDONS]]
+    words += [record(65535, value) for value in (9, 127, 128, 137, 255)]
+    filled = [record(300, k % 256) for k in range(253 - len(words) - 3)]
+    late = row("o2 a b c2", 100) + [record(300, 7)] + row("o3 a b sp", 400)
+    return plain(0, words + filled + row("o2 a b", 500)) + plain(1, late) + cleared()
+
+
+def two_editions():
+    """The open page of lowest index is of edition 2, and the pages of edition 1 are bad: an open one and a cleared one."""
+    used = second(plain(0, row("o2 a b c2", 5)))
+    return cleared() + used + plain(1, [record(5, 1), SPOILED]) + second(cleared())
+
+
 IMAGES = {
     "example_12": EXAMPLE_12,
     "power_cut": EXAMPLE_12[:24] + record(7, 201)[:2] + EXAMPLE_12[26:],
@@ -84,6 +127,12 @@ IMAGES = {
     "damaged_every_page_used": plain(0, [record(1, 1)]) + plain(1, [record(1, 2)]),
     "damaged_193_held": plain(0, [record(k, 1) for k in range(193)]) + cleared(),
     "held_192": plain(0, [record(k, k) for k in range(192)]) + cleared(),
+    "groups": second(groups()),
+    "groups_in_edition_1": groups(),
+    "two_editions": two_editions(),
+    "held_192_beside_an_open_group": second(plain(0, [record(k, k) for k in range(192)] + row("o1 a", 192)) + cleared()),
+    "damaged_193_by_a_group": second(plain(0, [record(k, k) for k in range(192)] + row("o1 a c1", 192)) + cleared()),
+    "damaged_193_in_edition_1": plain(0, [record(k, k) for k in range(192)] + row("o1 a", 192)) + cleared(),
 }
 
 
@@ -91,10 +140,10 @@ def sound(w):
     return checked(*w[:3]) == w
 
 
-def state(p):
+def state(p, edition):
     """("cleared",), ("open", kind, order) or None"""
     w, o, d = p[0:4], p[4:8], p[8:12]
-    if not (sound(w) and w[2] == 1):
+    if not (sound(w) and w[2] == edition):
         return None
     if p[4:] == b"\xff" * 1020:
         return ("cleared",)
@@ -106,27 +155,65 @@ def state(p):
     return None
 
 
+def is_open(s):
+    return s is not None and s[0] == "open"
+
+
+def kind(w, edition):
+    """What stands in a slot by itself."""
+    if sound(w) and w[:2] != b"\xff\xff":
+        return "record"
+    if sound(w) and edition == 2 and 1 <= w[2] <= 8:
+        return "opens"
+    if sound(w) and edition == 2 and (w[2] == 0 or 129 <= w[2] <= 136):
+        return "ends"
+    if w == BLANK:
+        return "blank"
+    return "half" if w[2:] == b"\xff\xff" else "spoiled"
+
+
+def look(p, edition):
+    """The records of a page that count, and how many slots are half-written and spoiled."""
+    counted, half, spoiled, group = [], 0, 0, None
+    for k in range(12, 1024, 4):
+        w = p[k : k + 4]
+        what = kind(w, edition)
+        if what == "opens" and group is not None:
+            what = "spoiled"
+        half += what == "half"
+        spoiled += what == "spoiled"
+        setting = (int.from_bytes(w[:2], "little"), w[2]) if what == "record" else None
+        if what == "opens":
+            group = (w[2], [])
+        elif what == "ends" and group is not None:
+            n, inside = group
+            if w[2] == 128 + n and len(inside) == n and None not in inside:
+                counted += inside
+            group = None
+        elif group is not None:
+            group[1].append(setting)
+        elif what == "record":
+            counted.append(setting)
+    return counted, half, spoiled
+
+
 def listing(image):
     if len(image) % 1024 or not 2 <= len(image) // 1024 <= 32:
         return "refused 1\n"
     pages = [image[k : k + 1024] for k in range(0, len(image), 1024)]
-    states = [state(p) for p in pages]
-    opened = [(s[2], s[1], p) for s, p in zip(states, pages) if s and s[0] == "open"]
+    edition = next((e for p in pages for e in (1, 2) if is_open(state(p, e))), 1)
+    states = [state(p, edition) for p in pages]
+    opened = [(s[2], s[1], p) for s, p in zip(states, pages) if is_open(s)]
     if not opened:
         return "refused 2\n"
     base = max([o for o, kind, _ in opened if kind == 2], default=0)
     used = sorted((o, p) for o, _, p in opened if o >= base)
     values, half, spoiled = {}, 0, 0
     for _, p in used:
-        for k in range(12, 1024, 4):
-            w = p[k : k + 4]
-            address = int.from_bytes(w[:2], "little")
-            if sound(w) and address != 65535:
-                values[address] = w[2]
-            elif w[2:] != b"\xff\xff":
-                spoiled += 1
-            elif w != BLANK:
-                half += 1
+        counted, half_here, spoiled_here = look(p, edition)
+        values.update(counted)
+        half += half_here
+        spoiled += spoiled_here
     orders = [o for o, _ in used]
     if len(set(orders)) < len(orders) or len(used) == len(pages) or len(values) > 192:
         return "refused 3\n"

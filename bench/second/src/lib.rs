@@ -2,7 +2,7 @@
 
 use std::slice::{from_raw_parts, from_raw_parts_mut};
 
-use outside::Store;
+use outside::{Edition, Store};
 
 #[repr(C)]
 pub struct Stepped {
@@ -35,8 +35,9 @@ fn reading(answer: outside::Reading) -> Reading {
 /// # Safety
 /// Here and below: `image` points to `length` bytes that live through the call and are lent to it alone.
 #[no_mangle]
-pub unsafe extern "C" fn istrovell_format(image: *mut u8, length: usize) -> u8 {
-    outside::Second.format(from_raw_parts_mut(image, length))
+pub unsafe extern "C" fn istrovell_format(image: *mut u8, length: usize, second_edition: bool) -> u8 {
+    let edition = if second_edition { Edition::Second } else { Edition::First };
+    outside::Second.format(from_raw_parts_mut(image, length), edition)
 }
 
 /// # Safety
@@ -57,6 +58,20 @@ pub unsafe extern "C" fn istrovell_write(
     allowance: u16,
 ) -> Stepped {
     stepped(outside::Second.write(from_raw_parts_mut(image, length), address, value, allowance))
+}
+
+/// # Safety
+/// As `istrovell_format`; and `group` points to `group_length` bytes, outside the image, that live through the call.
+#[no_mangle]
+pub unsafe extern "C" fn istrovell_write_group(
+    image: *mut u8,
+    length: usize,
+    group: *const u8,
+    group_length: usize,
+    allowance: u16,
+) -> Stepped {
+    let group = from_raw_parts(group, group_length);
+    stepped(outside::Second.write_group(from_raw_parts_mut(image, length), group, allowance))
 }
 
 /// # Safety

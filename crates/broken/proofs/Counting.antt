@@ -1,18 +1,20 @@
 -- What is counted of one slot more, and of one page more. Assumes nothing.
 use Prim.Native.Nat.{ℕ, _+_, _*_, _≤_, _<_}
 use mathlib.Core.Path.{_≡_, ap, _∙_}
-use mathlib.Core.List.{List, [], _∷_, _++_, map, map-append}
+use mathlib.Core.List.{List, [], _∷_, _++_, map}
 use native.Mathlib.Omega.{arith}
 use lib.ListN.{length, getD, take, length-map}
-use Rattle.rules.specs.Word.{words, Condition, slot-condition}
-use Rattle.rules.specs.Page.{Form, size}
-use Rattle.rules.specs.Store.{each, count}
+use Rattle.rules.specs.Word.{Word, words, Condition, opens, slot}
+use Rattle.rules.specs.Page.{Form, size, page}
+use Rattle.rules.specs.Store.{each, count, Place, outside, inside, lost}
 use Rattle.rules.specs.Call.{pages, page-in}
-use Rattle.rules.specs.Listing.{is-half, is-spoiled, conditions-in, used-conditions}
+use Rattle.rules.specs.Listing.{is-half, is-spoiled, condition-at, conditions, conditions-in, used-conditions}
 use Rattle.rules.proofs.Stores.{count-append}
-use Rattle.rules.proofs.Broken.{used-counted, broken-few}
+use Rattle.rules.proofs.Broken.{used-counted, broken-few, conditions-append, conditions-many}
 use Rattle.words.specs.Read.{word-in}
-use Rattle.words.proofs.Parts.{next-word}
+use Rattle.groups.specs.declared.Place.{Place as Numbers}
+use Rattle.groups.specs.Stands.{Stands}
+use Rattle.groups.proofs.Standing.{place-at, next-slots}
 use Rattle.survey.specs.States.{slots-in}
 use Rattle.survey.specs.Look.{Lines}
 use Rattle.survey.proofs.Slots.{slots-many}
@@ -36,9 +38,25 @@ counts-few {cs} p = omega (arith, p .half, p .spoiled, broken-few cs)
 
 -- ---- the slots of a page
 
-pub next-slot : (s : List ℕ) (k : ℕ) → 4 * k + 4 ≤ length s
-    → map slot-condition (take (k + 1) (words s)) ≡ map slot-condition (take k (words s)) ++ (slot-condition (word-in s (4 * k)) ∷ [])
-next-slot s k l = ap (map slot-condition) (next-word s k l) ∙ map-append slot-condition (take k (words s)) (word-in s (4 * k) ∷ [])
+module _ (e : ℕ) (s : List ℕ) where
+  -- the conditions of the first k
+  abbrev pub first-slots : ℕ → List Condition
+  first-slots k = conditions outside (map (slot e) (take k (words s)))
+
+  pub next-slot : (k : ℕ) → 4 * k + 4 ≤ length s
+      → first-slots (k + 1) ≡ first-slots k ++ (condition-at (place-at e s k) (slot e (word-in s (4 * k))) ∷ [])
+  unfolding conditions
+  next-slot k l =
+      ap (conditions outside) (next-slots e s k l)
+      ∙ conditions-append outside (map (slot e) (take k (words s))) (slot e (word-in s (4 * k)) ∷ [])
+
+-- an opening, by the number of the group that it stands in
+pub counts-opening : (at : Place) (xs : List Word) (p : Numbers) → Stands at xs p → (n : ℕ) (r : Broken)
+    → (r .half ≡ 0) × (p .number ≡ 0 → r .spoiled ≡ 0) × ((p .number ≡ 0 → ⊥) → r .spoiled ≡ 1) → Counts (condition-at at (opens n) ∷ []) r
+unfolding condition-at count is-half is-spoiled Stands
+counts-opening outside xs p h n r z = record { half = z .0; spoiled = z .1 (h .0) }
+counts-opening (inside m rs) xs p h n r z = record { half = z .0; spoiled = z .2 (λ e. omega (arith, h .0, h .2)) }
+counts-opening lost xs p h n r z = record { half = z .0; spoiled = z .2 (λ e. omega (arith, h .0)) }
 
 -- ---- the pages of the line
 
@@ -47,8 +65,9 @@ module _ (fm : Form) (i line : List ℕ) where
   abbrev pub first-conditions : ℕ → List Condition
   first-conditions k = each conditions-in (map (λ (p : ℕ). page-in fm p i) (take k line))
 
-  pub next-page : (k : ℕ) → k < length line → first-conditions (k + 1) ≡ first-conditions k ++ map slot-condition (slots-in fm (getD line k 0) i)
-  unfolding slots-in
+  pub next-page : (k : ℕ) → k < length line
+      → first-conditions (k + 1) ≡ first-conditions k ++ conditions outside (map (slot (fm .edition)) (slots-in fm (getD line k 0) i))
+  unfolding slots-in page
   next-page k l = line-next fm i conditions-in line k l
 
   -- all of them are the used pages
@@ -61,6 +80,7 @@ module _ (fm : Form) (i line : List ℕ) where
       }
 
 pub page-few : (fm : Form) (k : ℕ) (i : List ℕ) {r : Broken} → k * size fm + size fm ≤ length i
-    → Counts (map slot-condition (slots-in fm k i)) r → r .half + r .spoiled ≤ fm .slot-count
+    → Counts (conditions outside (map (slot (fm .edition)) (slots-in fm k i))) r → r .half + r .spoiled ≤ fm .slot-count
 page-few fm k i l p =
-    omega (arith, counts-few p, length-map (slots-in fm k i) slot-condition, slots-many fm k i l)
+    let ss = map (slot (fm .edition)) (slots-in fm k i) in
+    omega (arith, counts-few p, conditions-many outside ss, length-map (slots-in fm k i) (slot (fm .edition)), slots-many fm k i l)

@@ -1,3 +1,4 @@
--- Laws of the code's own, for its proofs.
+-- Laws of the code's own, for its proofs; `Ways` has those that the writing of a change cites.
 mod Candidates
-mod Ways
+mod Telling
+pub mod Ways

@@ -1,23 +1,27 @@
 -- The way of a write by what the look told, test by test. Assumes nothing.
-use Prim.Native.Nat.{ℕ, _+_, _≤_, _<_}
-use mathlib.Core.Path.{_≡_, sym, ap, _∙_, subst}
-use mathlib.Core.Bool.{true, false}
-use mathlib.Core.List.{List}
-use mathlib.Core.Option.{none, some}
+use Prim.Native.Nat.{ℕ, _+_, _%_, _≤_, _<_}
+use mathlib.Core.Path.{_≡_, refl, sym, ap, _∙_, subst}
+use mathlib.Core.Bool.{Bool, true, false, cond}
+use mathlib.Core.List.{List, [], _∷_, map}
 use native.Mathlib.Omega.{arith}
-use lib.ListN.{length}
+use lib.ListN.{length, length-append, length-map}
 use lib.Dec.{eqb, leb}
-use borrow.Author.Tests.{eqb-false, eq-eqb, ne-eqb, lt-ltb, le-ltb, le-leb, lt-leb}
-use Rattle.rules.specs.Page.{Form, size, State}
-use Rattle.rules.specs.Store.{index, states, base, active-order, active-index, active-slots, count, is-cleared, value, held, settings}
-use Rattle.rules.specs.Steps.{unclean, has-free-slot, is-value, way, new-page, taken, next-order}
-use Rattle.rules.specs.Call.{page-count, pages, wrong-size, store-number, write-number, accepted, is-unclean, is-held, no-room, order-end, held-limit}
-use Rattle.rules.specs.Call.{order-limit, ORDER-END}
+use borrow.Author.Tests.{eqb-false, leb-true, eq-eqb, ne-eqb, le-leb, lt-leb, lt-ltb, le-ltb}
+use Rattle.rules.specs.Word.{mark-word}
+use Rattle.rules.specs.Page.{Form, size, State, Page}
+use Rattle.rules.specs.Store.{index, states, base, active-order, active-index, active-page, active-slots, has-room, open-group, count, is-cleared, Setting}
+use Rattle.rules.specs.Store.{setting, settings, held, free-slot}
+use Rattle.rules.specs.Steps.{unclean, Change, group, settings-of, words-of, record-of, all-values, way, new-page, taken, next-order}
+use Rattle.rules.specs.Call.{page-count, pages, wrong-size, store-number, write-number, accepted, is-unclean, wrong-group, a-wrong-address, no-room}
+use Rattle.rules.specs.Call.{order-end, order-limit, held-limit, is-new, ORDER-END, triples, group-of}
 use Rattle.rules.proofs.Cut.{page-within, pages-long}
-use Rattle.rules.proofs.Truth.{by-cases}
+use Rattle.rules.proofs.Truth.{by-cases, and-left}
+use Rattle.rules.proofs.Groups.{grouped}
 use Rattle.rules.proofs.Stores.{length-states}
 use Rattle.rules.proofs.Ready.{right-sizes, size-right, active-within, taken-within}
 use Rattle.rules.proofs.Answers.{not-accepted, write-end, write-ok}
+use Rattle.changes.specs.Entries.{byte-address, byte-value}
+use Rattle.changes.proofs.Entries.{entry, from-entry, none-behind, length-triples}
 use Rattle.survey.specs.declared.Look.{Look}
 use Rattle.survey.specs.Look.{Told}
 use Rattle.survey.proofs.Slots.{slots-are, slots-many}
@@ -25,7 +29,7 @@ use Rattle.survey.proofs.Looking.{counted}
 use Rattle.choosing.specs.declared.Way.{Way}
 use Rattle.choosing.specs.declared.Way.the-variants.{Refuse, Stay, Append, Open, Move}
 use Rattle.choosing.specs.Candidate.{chosen}
-use Rattle.choosing.specs.Way.{way-for, Fitting, Chosen, new-page-of}
+use Rattle.choosing.specs.Way.{change-of, Lent, way-for, Fitting, Chosen, Tested, new-page-of}
 use Rattle.choosing.proofs.Candidates.{taken-is}
 
 -- ---- a new page
@@ -44,32 +48,94 @@ module _ (xs : List ℕ) (n o : ℕ) where
     unfolding new-page-of
     page-open l = rw (← ep, ne-eqb o order-limit ne, le-leb 2 n l)
 
+-- ---- the change that lent bytes are
+
+-- its settings, and how many words it takes, unless it is refused as GROUP
+module _ (e : ℕ) (s : List ℕ) where
+  grouped-three : wrong-group e (group-of s) ≡ false → eqb (length s % 3) 0 ≡ true
+  unfolding group-of
+  grouped-three g =
+      by-cases (eqb (length s % 3) 0) (λ t. t)
+      (λ t. absurd (none-there (grouped e [] (rw t at g) .least)))
+    where
+      none-there : 1 ≤ length {A = Setting} [] → ⊥
+      none-there l = omega arith
+
+  pub group-is : wrong-group e (group-of s) ≡ false → group-of s ≡ group (triples s)
+  unfolding group-of
+  group-is g = rw (grouped-three g)
+
+pub single-is : (s : List ℕ) → length s ≡ 3 → triples s ≡ setting (byte-address s 0) (byte-value s 0) ∷ []
+single-is s l =
+    from-entry s 0 (omega arith) ∙ ap (λ (rs : List Setting). entry s 0 ∷ rs) (none-behind s 1 (omega arith))
+
+pub change-settings : (e : ℕ) (marks : Bool) (s : List ℕ) → Lent marks s → wrong-group e (change-of marks s) ≡ false
+    → settings-of (change-of marks s) ≡ triples s
+unfolding change-of settings-of Lent
+change-settings e true s l g = ap settings-of (group-is e s g)
+change-settings e false s l g = sym (single-is s (l refl))
+
+pub change-short : (e : ℕ) (marks : Bool) (s : List ℕ) → Lent marks s → wrong-group e (change-of marks s) ≡ false → length s ≤ 26
+unfolding change-of Lent
+change-short e true s l g =
+    let t = length-triples s in
+    let m = grouped e (triples s) (sym (ap (wrong-group e) (group-is e s g)) ∙ g) .most in
+    omega arith
+change-short e false s l g = omega (arith, l refl)
+
+pub change-many : (e : ℕ) (marks : Bool) (s : List ℕ) → Lent marks s → wrong-group e (change-of marks s) ≡ false
+    → length (words-of (change-of marks s)) ≡ cond marks (length (triples s) + 2) (length (triples s))
+unfolding change-of words-of Lent
+change-many e true s l g =
+    let rs = triples s in
+    ap (λ (c : Change). length (words-of c)) (group-is e s g)
+    ∙ (let a = length-append (map record-of rs) (mark-word (128 + length rs) ∷ []) in let b = length-map rs record-of in omega arith)
+change-many e false s l g = ap length (sym (single-is s (l refl)))
+
 -- ---- an accepted or refused write
 
-module _ (fm : Form) (a v : ℕ) (i : List ℕ) where
-  pub refused : (n : ℕ) → (n ≡ 0 → ⊥) → write-number fm a v i ≡ n → Chosen fm a v i (Refuse n)
+module _ (fm : Form) (c : Change) (i : List ℕ) where
+  pub refused : (n : ℕ) → (n ≡ 0 → ⊥) → write-number fm c i ≡ n → Chosen fm c i (Refuse n)
   unfolding way-for Fitting
   refused n ne e = record { is-way = rw (e, not-accepted n ne); fits = tt }
 
-  pub stays : write-number fm a v i ≡ 0 → is-value (value a (pages fm i)) v ≡ true → Chosen fm a v i Stay
+  pub stays : write-number fm c i ≡ 0 → all-values (settings-of c) (pages fm i) ≡ true → Chosen fm c i Stay
   unfolding way-for way accepted Fitting
   stays e s = record { is-way = rw (e, s); fits = tt }
 
--- ---- the number held
+-- with the new addresses, more than 192 would be held, or not
+module _ (rs : List Setting) (ps : List Page) (n m : ℕ) (held-is : n ≡ length (settings ps)) (new-is : m ≡ count (is-new ps) rs) where
+  pub full : 192 < n + m → no-room rs ps ≡ true
+  unfolding no-room held
+  full l = lt-ltb held-limit (length (settings ps) + count (is-new ps) rs) (omega arith)
 
-module _ (fm : Form) (i : List ℕ) (a : ℕ) where
-  pub room-held : (u : ℕ) → value a (pages fm i) ≡ some u → no-room a (pages fm i) ≡ false
-  unfolding no-room is-held
-  room-held u e = rw e
+  pub roomy : n + m ≤ 192 → no-room rs ps ≡ false
+  unfolding no-room held
+  roomy l = le-ltb held-limit (length (settings ps) + count (is-new ps) rs) (omega arith)
 
-  module _ (e : value a (pages fm i) ≡ none) (h : ℕ) (is : h ≡ length (settings (pages fm i))) where
-    pub room-full : 192 ≤ h → no-room a (pages fm i) ≡ true
-    unfolding no-room is-held held
-    room-full l = rw (e, le-leb held-limit (length (settings (pages fm i))) (omega arith))
+-- ---- the tests before the table is asked
 
-    pub room-left : h < 192 → no-room a (pages fm i) ≡ false
-    unfolding no-room is-held held
-    room-left l = rw (e, lt-leb held-limit (length (settings (pages fm i))) (omega arith))
+module _ (fm : Form) (c : Change) (rs : List Setting) (i : List ℕ) where
+  pub tested : (n : ℕ) → (n ≡ 0 → ⊥) → write-number fm c i ≡ n → Tested fm c rs i n
+  tested n ne e =
+      record {
+        refused = λ h. e;
+        stored = λ z. absurd (ne z);
+        clean = λ z. absurd (ne z);
+        grouped = λ z. absurd (ne z);
+        addressed = λ z. absurd (ne z);
+      }
+
+  pub passed : store-number fm i ≡ 0 → is-unclean (pages fm i) ≡ false → wrong-group (fm .edition) c ≡ false → a-wrong-address rs ≡ false
+      → Tested fm c rs i 0
+  passed ok clean right far =
+      record {
+        refused = λ h. absurd (h refl);
+        stored = λ z. ok;
+        clean = λ z. clean;
+        grouped = λ z. right;
+        addressed = λ z. far;
+      }
 
 -- ---- by what the look told
 
@@ -89,62 +155,70 @@ module _ {fm : Form} {i : List ℕ} {look : Look} (t : Told fm i look) (ok : sto
   pub used-few : look .used + look .cleared ≤ 32
   used-few = omega (arith, counted t, all-long, few)
 
-  pub some-unclean : look .used + look .cleared < look .count → is-unclean all ≡ true
+  pub some-unclean : look .used + look .cleared < look .count → is-unclean (pages fm i) ≡ true
   unfolding is-unclean
   some-unclean l = let e = counted t in rw (ne-eqb (count (unclean (base all)) all) 0 (λ z. omega arith))
 
-  pub none-unclean : look .count ≤ look .used + look .cleared → is-unclean all ≡ false
+  pub by-group : (g : Bool) → g ≡ open-group (pages fm i) → look .count ≤ look .used + look .cleared → is-unclean (pages fm i) ≡ g
   unfolding is-unclean
-  none-unclean l = let e = counted t in rw (eq-eqb (count (unclean (base all)) all) 0 (omega arith))
+  by-group g e l = let n = counted t in rw (eq-eqb (count (unclean (base all)) all) 0 (omega arith)) (sym e)
 
   -- ---- the slots of the active page
 
   slots-long : length (active-slots (pages fm i)) ≡ fm .slot-count
-  unfolding active-slots
+  unfolding active-slots active-page
   slots-long =
       let w = active-within fm i ok in
       let s = right-sizes fm i sized .sized in
       let inside = page-within (size fm) (page-count fm i) (active-index all) w in
       ap length (slots-are fm (active-index all) i w) ∙ slots-many fm (active-index all) i (omega arith)
 
-  has-room : look .free < fm .slot-count → has-free-slot (pages fm i) ≡ true
-  unfolding has-free-slot
-  has-room l = rw (← t .free, slots-long, lt-ltb (look .free) (fm .slot-count) l)
+  there-is-room : (n : ℕ) → look .free + n ≤ fm .slot-count → has-room n (pages fm i) ≡ true
+  unfolding has-room
+  there-is-room n l = rw (← t .free, slots-long, le-leb (look .free + n) (fm .slot-count) l)
 
-  no-slot : fm .slot-count ≤ look .free → has-free-slot (pages fm i) ≡ false
-  unfolding has-free-slot
-  no-slot l = rw (← t .free, slots-long, le-ltb (look .free) (fm .slot-count) l)
+  no-slots : (n : ℕ) → fm .slot-count < look .free + n → has-room n (pages fm i) ≡ false
+  unfolding has-room
+  no-slots n l = rw (← t .free, slots-long, lt-leb (look .free + n) (fm .slot-count) l)
 
-  -- ---- a new record
+  -- an open group has a free slot behind it
+  pub open-slot : open-group (pages fm i) ≡ true → look .free < fm .slot-count
+  unfolding open-group has-room
+  open-slot o =
+      let l = leb-true (free-slot (active-slots (pages fm i)) + 1) (length (active-slots (pages fm i))) (and-left _ _ o) in
+      omega (arith, slots-long, t .free)
 
-  module _ (a v : ℕ) (clean : is-unclean all ≡ false) (below : a < 65535)
-      (new : is-value (value a (pages fm i)) v ≡ false) (room : no-room a (pages fm i) ≡ false) where
-    pub appends : look .free < fm .slot-count → Chosen fm a v i (Append (look .active) (look .free))
+  -- ---- new records
+
+  module _ (c : Change) (clean : is-unclean (pages fm i) ≡ false) (right : wrong-group (fm .edition) c ≡ false)
+      (far : a-wrong-address (settings-of c) ≡ false) (new : all-values (settings-of c) (pages fm i) ≡ false)
+      (room : no-room (settings-of c) (pages fm i) ≡ false) where
+    pub appends : look .free + length (words-of c) ≤ fm .slot-count → Chosen fm c i (Append (look .active) (look .free))
     unfolding way-for way accepted order-end Fitting
     appends l =
-        let f = has-room l in
+        let f = there-is-room (length (words-of c)) l in
         let w = active-within fm i ok in
         record {
-          is-way = rw (write-ok fm a v i ok clean below new room (rw f), new, f, t .active, t .free);
+          is-way = rw (write-ok fm c i ok clean right far new room (rw f), new, f, t .active, t .free);
           fits = (omega (arith, t .active, right-sizes fm i sized .most), l);
         }
 
     -- the page of least wear, opened or moved to
-    new-page-is : fm .slot-count ≤ look .free → new-page-of (look .spares) (look .cleared) (look .order) ≡ way-for fm a v i
+    new-page-is : fm .slot-count < look .free + length (words-of c) → new-page-of (look .spares) (look .cleared) (look .order) ≡ way-for fm c i
     unfolding new-page-of way-for way new-page taken next-order accepted order-end
     new-page-is l =
-        let f = no-slot l in
+        let f = no-slots (length (words-of c)) l in
         let p = taken-is all (t .spared) few in
         by-cases (eqb (active-order all) order-limit)
-        (λ o. rw (t .order, o, write-end fm a v i ok clean below new room (rw (f, o))))
+        (λ o. rw (t .order, o, write-end fm c i ok clean right far new room (rw (f, o))))
         (λ o.
-        rw (t .order, o, p, t .clears, write-ok fm a v i ok clean below new room (rw (f, o)), new, f)
-        (by-cases (leb 2 (count is-cleared all)) (λ c. rw c) (λ c. rw c)))
+        rw (t .order, o, p, t .clears, write-ok fm c i ok clean right far new room (rw (f, o)), new, f)
+        (by-cases (leb 2 (count is-cleared all)) (λ d. rw d) (λ d. rw d)))
 
     next-fits : (look .order ≡ 4194303 → ⊥) → look .order + 1 < 4194304
     next-fits ne = omega (arith, ne, t .fits)
 
-    new-page-fits : Fitting fm (new-page-of (look .spares) (look .cleared) (look .order))
+    new-page-fits : Fitting fm c (new-page-of (look .spares) (look .cleared) (look .order))
     unfolding new-page-of Fitting taken
     new-page-fits =
         let p = taken-is all (t .spared) few in
@@ -153,7 +227,8 @@ module _ {fm : Form} {i : List ℕ} {look : Look} (t : Told fm i look) (ok : sto
         by-cases (eqb (look .order) order-limit) (λ o. rw o tt)
         (λ o.
         let n = next-fits (eqb-false (look .order) order-limit o) in
-        by-cases (leb 2 (look .cleared)) (λ c. rw (o, c) (inside, n)) (λ c. rw (o, c) (inside, n)))
+        by-cases (leb 2 (look .cleared)) (λ d. rw (o, d) (inside, n)) (λ d. rw (o, d) (inside, n)))
 
-    pub opens-page : fm .slot-count ≤ look .free → {r : Way} → r ≡ new-page-of (look .spares) (look .cleared) (look .order) → Chosen fm a v i r
-    opens-page l e = record { is-way = e ∙ new-page-is l; fits = subst (Fitting fm) (sym e) new-page-fits }
+    pub opens-page : fm .slot-count < look .free + length (words-of c) → {r : Way} → r ≡ new-page-of (look .spares) (look .cleared) (look .order)
+        → Chosen fm c i r
+    opens-page l e = record { is-way = e ∙ new-page-is l; fits = subst (Fitting fm c) (sym e) new-page-fits }

@@ -1,3 +1,4 @@
 -- Definitions that the contracts of this crate cite.
 pub mod Candidate
 pub mod Way
+pub mod Known

@@ -1,18 +1,18 @@
 -- X: the examples, those proved together: a single table, under the one statement at its end.
-use Prim.Native.Nat.{ℕ}
+use Prim.Native.Nat.{ℕ, _+_}
 use mathlib.Core.Bool.{Bool, true, false, _&&_}
-use mathlib.Core.List.{List, [], _∷_}
+use mathlib.Core.List.{List, [], _∷_, _++_, map}
 use mathlib.Core.Option.{Option, none, some}
-use lib.ListN.{replicate, take}
+use lib.ListN.{replicate, take, drop}
 use lib.Dec.{T, eqb}
-use Rattle.rules.specs.Flash.{Step, program, erase}
+use Rattle.rules.specs.Flash.{Step, program, erase, bytes-at}
 use Rattle.rules.specs.Word.{Word, word, Condition, Sound, Blank, HalfWritten, Spoiled, condition, wear-word, opening-word, done-word, record-word}
-use Rattle.rules.specs.Word.{slot-condition}
-use Rattle.rules.specs.Page.{State, cleared, open₁, open₂, receiving, bad, Page}
-use Rattle.rules.specs.Store.{Setting, setting}
-use Rattle.rules.specs.Steps.{recovery-steps}
+use Rattle.rules.specs.Word.{mark-word, Slot, recorded, opens, closes, neither, slot}
+use Rattle.rules.specs.Page.{Form, in-edition, blank-word, State, cleared, open₁, open₂, receiving, bad, Page}
+use Rattle.rules.specs.Store.{Setting, setting, address-of, settings, held}
+use Rattle.rules.specs.Steps.{recovery-steps, Change, single}
 use Rattle.rules.specs.Listing.{half, spoiled}
-use Rattle.rules.specs.Call.{this-form, Stepped, Reading, Pairing, format, recover, write, read, blank-read, lookup}
+use Rattle.rules.specs.Call.{this-chip, form-of, pages, is-unclean, Stepped, Reading, Pairing, format, group-of, recover, write, read, blank-read, lookup}
 
 -- a row: what the rules give, and what section X prints
 pub data Row : Type 0 where
@@ -50,6 +50,22 @@ told Blank = BLANK
 told HalfWritten = HALF-WRITTEN
 told Spoiled = SPOILED
 
+-- what a word is in a slot, by a number too, and behind it what the slot says
+abbrev pub RECORD : (address value : ℕ) → List ℕ
+RECORD a v = 5 ∷ a ∷ v ∷ []
+
+abbrev pub OPENS : ℕ → List ℕ
+OPENS n = 6 ∷ n ∷ []
+
+abbrev pub CLOSES : ℕ → List ℕ
+CLOSES n = 7 ∷ n ∷ []
+
+unfoldable pub kind : Slot → List ℕ
+kind (recorded a v) = RECORD a v
+kind (opens n) = OPENS n
+kind (closes n) = CLOSES n
+kind (neither c) = told c
+
 unfoldable pub said : Reading → List ℕ
 said r = r .number ∷ r .value ∷ []
 
@@ -71,15 +87,50 @@ done-by (erase p ∷ ss) = p ∷ done-by ss
 
 -- a page as far as a recovery looks at it
 abbrev pub page-with : State → Option ℕ → Page
-page-with s wear = record { state = s; wear = wear; slots = [] }
+page-with s wear = record { state = s; wear = wear; edition = 1; slots = [] }
 
--- a page with three broken slots, and what is counted of several pages
+-- a page with these slots and behind them a blank one; with three broken slots; and what is counted of several pages
+abbrev pub page-of : (edition : ℕ) → List Word → State → Page
+page-of edition ws s = record { state = s; wear = some 1; edition = edition; slots = ws ++ blank-word ∷ [] }
+
 abbrev pub page-broken : State → Page
-page-broken s =
-    record { state = s; wear = some 1; slots = word 0x05 0x00 0xFF 0xFF ∷ word 0x05 0x00 0x43 0x14 ∷ word 0xFF 0xFF 0xFF 0x00 ∷ word 0xFF 0xFF 0xFF 0xFF ∷ [] }
+page-broken = page-of 1 (word 0x05 0x00 0xFF 0xFF ∷ word 0x05 0x00 0x43 0x14 ∷ word 0xFF 0xFF 0xFF 0x00 ∷ [])
 
 unfoldable pub broken : List Page → List ℕ
 broken ps = half ps ∷ spoiled ps ∷ []
+
+-- the slots of X12's table: records of the addresses 5 and 7, marks that open, close and abandon, a spoiled slot
+abbrev pub A : Word
+A = record-word 5 65
+
+abbrev pub B : Word
+B = record-word 7 200
+
+abbrev pub O : ℕ → Word
+O n = mark-word n
+
+abbrev pub C : ℕ → Word
+C n = mark-word (128 + n)
+
+abbrev pub AB : Word
+AB = mark-word 0
+
+abbrev pub SP : Word
+SP = word 0x05 0x00 0x43 0x14
+
+-- a store of the second edition whose active page begins with such slots: 1 if it waits for recovery, else 0, and the addresses held
+abbrev pub store-with : List Word → List Page
+store-with ws = page-of 2 ws (open₁ 0) ∷ page-of 2 [] (cleared 1) ∷ []
+
+unfoldable pub stands : List Word → List ℕ
+stands ws = yes-no (is-unclean (store-with ws)) ∷ map address-of (settings (store-with ws))
+
+-- the forms of the two editions
+abbrev pub form₁ : Form
+form₁ = in-edition this-chip 1
+
+abbrev pub form₂ : Form
+form₂ = in-edition this-chip 2
 
 -- bytes of 255
 abbrev pub empty-flash : ℕ → List ℕ
@@ -88,23 +139,45 @@ empty-flash n = replicate n 0xFF
 -- the numbers that all calls give, as a call of each on an image
 unfoldable pub numbers : List ℕ → List ℕ
 numbers i =
-    format this-form i .number ∷ recover this-form 65535 i .number ∷ write this-form 0 0 65535 i .number
-    ∷ read this-form 0 i .number ∷ blank-read this-form 0 i .number ∷ lookup this-form i .number ∷ []
+    format form₁ i .number ∷ recover form₁ 65535 i .number ∷ write form₁ (single 0 0) 65535 i .number
+    ∷ read form₁ 0 i .number ∷ blank-read form₁ 0 i .number ∷ lookup form₁ i .number ∷ []
 
 -- finished writes, one after the other
 unfoldable pub written : List Setting → List ℕ → List ℕ
 written [] i = i
-written (setting a v ∷ rest) i = written rest (write this-form a v 65535 i .image)
+written (setting a v ∷ rest) i = written rest (write form₁ (single a v) 65535 i .image)
 
 abbrev pub digits : List Setting
 digits = setting 16 0 ∷ setting 17 255 ∷ setting 19 0 ∷ setting 18 7 ∷ setting 18 0 ∷ []
 
--- the rows; two-pages is the image of two formatted pages
-unfoldable pub rows : (two-pages : List ℕ) → List Row
-rows two-pages =
+-- X11's code as one group, by its lent bytes, and the image after so many steps of its write
+abbrev pub code-group : Change
+code-group = group-of (0x10 ∷ 0x00 ∷ 0x07 ∷ 0x11 ∷ 0x00 ∷ 0x01 ∷ 0x12 ∷ 0x00 ∷ 0x03 ∷ 0x13 ∷ 0x00 ∷ 0x09 ∷ [])
+
+abbrev pub code-after : (steps : ℕ) → List ℕ → List ℕ
+code-after n i = write form₂ code-group n i .image
+
+-- what the finished write of a group answers, by its lent bytes; those of nine settings
+unfoldable pub grouped : Form → (lent : List ℕ) → List ℕ → List ℕ
+grouped form lent i = did (write form (group-of lent) 65535 i)
+
+abbrev pub nine : List ℕ
+nine = 0 ∷ 0 ∷ 1 ∷ 1 ∷ 0 ∷ 1 ∷ 2 ∷ 0 ∷ 1 ∷ 3 ∷ 0 ∷ 1 ∷ 4 ∷ 0 ∷ 1 ∷ 5 ∷ 0 ∷ 1 ∷ 6 ∷ 0 ∷ 1 ∷ 7 ∷ 0 ∷ 1 ∷ 8 ∷ 0 ∷ 1 ∷ []
+
+-- the edition of an image, and an image whose page 1 is of the first edition
+abbrev pub edition-in : List ℕ → ℕ
+edition-in i = form-of this-chip i .edition
+
+abbrev pub mixed : (two-pages second : List ℕ) → List ℕ
+mixed two-pages second = take 1024 second ++ drop 1024 two-pages
+
+-- the rows; two-pages is the image of two formatted pages, second that of two of the second edition
+unfoldable pub rows : (two-pages second : List ℕ) → List Row
+rows two-pages second =
     -- 1. Record (5, 65)
     row (bytes (record-word 5 65)) (0x05 ∷ 0x00 ∷ 0x41 ∷ 0x14 ∷ [])
     ∷ row (told (condition (word 0x05 0x00 0x41 0x14))) SOUND
+    ∷ row (kind (slot 1 (word 0x05 0x00 0x41 0x14))) (RECORD 5 65)
     -- 2. Record (0, 0), record (65534, 255)
     ∷ row (bytes (record-word 0 0)) (0x00 ∷ 0x00 ∷ 0x00 ∷ 0x18 ∷ [])
     ∷ row (bytes (record-word 65534 255)) (0xFE ∷ 0xFF ∷ 0xFF ∷ 0x01 ∷ [])
@@ -118,10 +191,19 @@ rows two-pages =
     -- 5. A half-written word, and a spoiled one; FF FF FF 00 in a slot, and as a done word; a blank word is neither
     ∷ row (told (condition (word 0x05 0x00 0xFF 0xFF))) HALF-WRITTEN
     ∷ row (told (condition (word 0x05 0x00 0x43 0x14))) SPOILED
-    ∷ row (told (slot-condition (word 0xFF 0xFF 0xFF 0x00))) SPOILED
+    ∷ row (kind (slot 1 (word 0xFF 0xFF 0xFF 0x00))) SPOILED
     ∷ row (bytes (done-word 4194303)) (0xFF ∷ 0xFF ∷ 0xFF ∷ 0x00 ∷ [])
     ∷ row (told (condition (word 0xFF 0xFF 0xFF 0x00))) SOUND
     ∷ row (told (condition (word 0xFF 0xFF 0xFF 0xFF))) BLANK
+    -- X1. Of the second edition: wear 1; marks that open 4, close 4 and abandon, which in the first are spoiled
+    ∷ row (bytes (wear-word 2 1)) (0x01 ∷ 0x00 ∷ 0x02 ∷ 0x16 ∷ [])
+    ∷ row (kind (slot 2 (word 0xFF 0xFF 0x04 0x07))) (OPENS 4)
+    ∷ row (kind (slot 2 (word 0xFF 0xFF 0x84 0x06))) (CLOSES 4)
+    ∷ row (kind (slot 2 (word 0xFF 0xFF 0x00 0x08))) (CLOSES 0)
+    ∷ row (kind (slot 2 (word 0xFF 0xFF 0xFF 0x00))) SPOILED
+    ∷ row (kind (slot 1 (word 0xFF 0xFF 0x04 0x07))) SPOILED
+    ∷ row (kind (slot 1 (word 0xFF 0xFF 0x84 0x06))) SPOILED
+    ∷ row (kind (slot 1 (word 0xFF 0xFF 0x00 0x08))) SPOILED
     -- 6. Lengths that are SIZE, at every call
     ∷ row (numbers (empty-flash 0)) (1 ∷ 1 ∷ 1 ∷ 1 ∷ 1 ∷ 1 ∷ [])
     ∷ row (numbers (empty-flash 1024)) (1 ∷ 1 ∷ 1 ∷ 1 ∷ 1 ∷ 1 ∷ [])
@@ -129,13 +211,13 @@ rows two-pages =
     ∷ row (numbers (empty-flash 33792)) (1 ∷ 1 ∷ 1 ∷ 1 ∷ 1 ∷ 1 ∷ [])
     -- 7. 2,048 bytes of 255: NO STORE, but to format. Formatted two pages, read 0: NOT HELD; blank read 0.
     ∷ row (numbers (empty-flash 2048)) (0 ∷ 2 ∷ 2 ∷ 2 ∷ 2 ∷ 2 ∷ [])
-    ∷ row (said (read this-form 0 two-pages)) (8 ∷ 0 ∷ [])
-    ∷ row (said (blank-read this-form 0 two-pages)) (0 ∷ 0 ∷ [])
+    ∷ row (said (read form₁ 0 two-pages)) (8 ∷ 0 ∷ [])
+    ∷ row (said (blank-read form₁ 0 two-pages)) (0 ∷ 0 ∷ [])
     -- 8. Write (5, 65), allowance 1: 1 step, unfinished, 5 not held. Allowance 2 instead: finished, 65.
-    ∷ row (did (write this-form 5 65 1 two-pages)) (0 ∷ 1 ∷ 0 ∷ [])
-    ∷ row (said (read this-form 5 (write this-form 5 65 1 two-pages .image))) (8 ∷ 0 ∷ [])
-    ∷ row (did (write this-form 5 65 2 two-pages)) (0 ∷ 2 ∷ 1 ∷ [])
-    ∷ row (said (read this-form 5 (write this-form 5 65 2 two-pages .image))) (0 ∷ 65 ∷ [])
+    ∷ row (did (write form₁ (single 5 65) 1 two-pages)) (0 ∷ 1 ∷ 0 ∷ [])
+    ∷ row (said (read form₁ 5 (write form₁ (single 5 65) 1 two-pages .image))) (8 ∷ 0 ∷ [])
+    ∷ row (did (write form₁ (single 5 65) 2 two-pages)) (0 ∷ 2 ∷ 1 ∷ [])
+    ∷ row (said (read form₁ 5 (write form₁ (single 5 65) 2 two-pages .image))) (0 ∷ 65 ∷ [])
     -- X8. Page 0 open with wear 7, page 1 receiving with wear 9, pages 2 and 3 without a wear: recovery gives 10, 11 and 12.
     ∷ row (done-by (recovery-steps 1 (page-with (open₁ 0) (some 7) ∷ page-with receiving (some 9) ∷ page-with bad none ∷ page-with bad none ∷ [])))
     (1 ∷ 0x0A ∷ 0x00 ∷ 0x01 ∷ 0x15 ∷ 2 ∷ 0x0B ∷ 0x00 ∷ 0x01 ∷ 0x14 ∷ 3 ∷ 0x0C ∷ 0x00 ∷ 0x01 ∷ 0x15 ∷ [])
@@ -146,16 +228,58 @@ rows two-pages =
     ∷ row (broken (page-broken (open₁ 0) ∷ page-with (cleared 1) (some 1) ∷ [])) (1 ∷ 2 ∷ [])
     ∷ row (broken (page-broken (open₁ 0) ∷ page-with (open₂ 1) (some 1) ∷ [])) (0 ∷ 0 ∷ [])
     -- X10. The lookup after none of the writes, after the first, and so on: not paired until 18 is held too, with 7 and then with 0.
-    ∷ row (showed (lookup this-form (written (take 0 digits) two-pages))) (0 ∷ 0 ∷ 0 ∷ 0 ∷ 0 ∷ 0 ∷ [])
-    ∷ row (showed (lookup this-form (written (take 1 digits) two-pages))) (0 ∷ 0 ∷ 0 ∷ 0 ∷ 0 ∷ 0 ∷ [])
-    ∷ row (showed (lookup this-form (written (take 2 digits) two-pages))) (0 ∷ 0 ∷ 0 ∷ 255 ∷ 0 ∷ 0 ∷ [])
-    ∷ row (showed (lookup this-form (written (take 3 digits) two-pages))) (0 ∷ 0 ∷ 0 ∷ 255 ∷ 0 ∷ 0 ∷ [])
-    ∷ row (showed (lookup this-form (written (take 4 digits) two-pages))) (0 ∷ 1 ∷ 0 ∷ 255 ∷ 7 ∷ 0 ∷ [])
-    ∷ row (showed (lookup this-form (written (take 5 digits) two-pages))) (0 ∷ 1 ∷ 0 ∷ 255 ∷ 0 ∷ 0 ∷ [])
+    ∷ row (showed (lookup form₁ (written (take 0 digits) two-pages))) (0 ∷ 0 ∷ 0 ∷ 0 ∷ 0 ∷ 0 ∷ [])
+    ∷ row (showed (lookup form₁ (written (take 1 digits) two-pages))) (0 ∷ 0 ∷ 0 ∷ 0 ∷ 0 ∷ 0 ∷ [])
+    ∷ row (showed (lookup form₁ (written (take 2 digits) two-pages))) (0 ∷ 0 ∷ 0 ∷ 255 ∷ 0 ∷ 0 ∷ [])
+    ∷ row (showed (lookup form₁ (written (take 3 digits) two-pages))) (0 ∷ 0 ∷ 0 ∷ 255 ∷ 0 ∷ 0 ∷ [])
+    ∷ row (showed (lookup form₁ (written (take 4 digits) two-pages))) (0 ∷ 1 ∷ 0 ∷ 255 ∷ 7 ∷ 0 ∷ [])
+    ∷ row (showed (lookup form₁ (written (take 5 digits) two-pages))) (0 ∷ 1 ∷ 0 ∷ 255 ∷ 0 ∷ 0 ∷ [])
+    -- X11. A code written as one: 12 steps. After 11 of them none is held, after 12 all four are.
+    ∷ row (did (write form₂ code-group 65535 second)) (0 ∷ 12 ∷ 1 ∷ [])
+    ∷ row (held (pages form₂ (code-after 11 second)) ∷ []) (0 ∷ [])
+    ∷ row (showed (lookup form₂ (code-after 11 second))) (0 ∷ 0 ∷ 0 ∷ 0 ∷ 0 ∷ 0 ∷ [])
+    ∷ row (showed (lookup form₂ (code-after 12 second))) (0 ∷ 1 ∷ 7 ∷ 1 ∷ 3 ∷ 9 ∷ [])
+    -- page 0 then: its header, and three slots each
+    ∷ row (bytes-at 0 12 (code-after 12 second)) (0x01 ∷ 0x00 ∷ 0x02 ∷ 0x16 ∷ 0x01 ∷ 0x00 ∷ 0x00 ∷ 0x17 ∷ 0xFF ∷ 0xFF ∷ 0xFF ∷ 0xFF ∷ [])
+    ∷ row (bytes-at 12 12 (code-after 12 second)) (0xFF ∷ 0xFF ∷ 0x04 ∷ 0x07 ∷ 0x10 ∷ 0x00 ∷ 0x07 ∷ 0x14 ∷ 0x11 ∷ 0x00 ∷ 0x01 ∷ 0x15 ∷ [])
+    ∷ row (bytes-at 24 12 (code-after 12 second)) (0x12 ∷ 0x00 ∷ 0x03 ∷ 0x14 ∷ 0x13 ∷ 0x00 ∷ 0x09 ∷ 0x13 ∷ 0xFF ∷ 0xFF ∷ 0x84 ∷ 0x06 ∷ [])
+    -- stopped after 1 step, recovery has none; after 5 it has 2, and the mark that abandons stands in slot 3
+    ∷ row (did (recover form₂ 65535 (code-after 1 second))) (0 ∷ 0 ∷ 1 ∷ [])
+    ∷ row (did (recover form₂ 65535 (code-after 5 second))) (0 ∷ 2 ∷ 1 ∷ [])
+    ∷ row (bytes-at 24 4 (recover form₂ 65535 (code-after 5 second) .image)) (0xFF ∷ 0xFF ∷ 0x00 ∷ 0x08 ∷ [])
+    -- X12. Groups that count and that don't; a mark that opens in a group is spoiled
+    ∷ row (stands (O 2 ∷ A ∷ B ∷ C 2 ∷ [])) (0 ∷ 5 ∷ 7 ∷ [])
+    ∷ row (stands (O 1 ∷ A ∷ C 1 ∷ B ∷ [])) (0 ∷ 5 ∷ 7 ∷ [])
+    ∷ row (stands (O 2 ∷ A ∷ B ∷ [])) (1 ∷ [])
+    ∷ row (stands (O 2 ∷ A ∷ B ∷ C 1 ∷ [])) (0 ∷ [])
+    ∷ row (stands (O 1 ∷ A ∷ B ∷ C 1 ∷ [])) (0 ∷ [])
+    ∷ row (stands (O 2 ∷ A ∷ C 2 ∷ [])) (0 ∷ [])
+    ∷ row (stands (O 2 ∷ A ∷ SP ∷ C 2 ∷ [])) (0 ∷ [])
+    ∷ row (stands (O 2 ∷ A ∷ blank-word ∷ C 2 ∷ [])) (0 ∷ [])
+    ∷ row (stands (O 2 ∷ A ∷ B ∷ SP ∷ C 2 ∷ [])) (0 ∷ [])
+    ∷ row (stands (O 2 ∷ A ∷ AB ∷ B ∷ [])) (0 ∷ 7 ∷ [])
+    ∷ row (stands (O 2 ∷ A ∷ O 1 ∷ B ∷ C 1 ∷ [])) (0 ∷ [])
+    ∷ row (broken (store-with (O 2 ∷ A ∷ O 1 ∷ B ∷ C 1 ∷ []))) (0 ∷ 1 ∷ [])
+    ∷ row (stands (C 2 ∷ A ∷ AB ∷ B ∷ [])) (0 ∷ 5 ∷ 7 ∷ [])
+    ∷ row (stands (O 2 ∷ A ∷ B ∷ SP ∷ [])) (1 ∷ [])
+    -- X13. GROUP: of 1 at 5 in the first edition; of no bytes, of 2, of nine settings; of 1 at 5 and 2 at 5. With 65,535: ADDRESS.
+    ∷ row (grouped form₁ (5 ∷ 0 ∷ 1 ∷ []) two-pages) (9 ∷ 0 ∷ 0 ∷ [])
+    ∷ row (grouped form₂ [] second) (9 ∷ 0 ∷ 0 ∷ [])
+    ∷ row (grouped form₂ (5 ∷ 0 ∷ []) second) (9 ∷ 0 ∷ 0 ∷ [])
+    ∷ row (grouped form₂ nine second) (9 ∷ 0 ∷ 0 ∷ [])
+    ∷ row (grouped form₂ (5 ∷ 0 ∷ 1 ∷ 5 ∷ 0 ∷ 2 ∷ []) second) (9 ∷ 0 ∷ 0 ∷ [])
+    ∷ row (grouped form₂ (5 ∷ 0 ∷ 1 ∷ 0xFF ∷ 0xFF ∷ 2 ∷ []) second) (5 ∷ 0 ∷ 0 ∷ [])
+    -- Of 1 at 5: 6 steps, finished; and again: none.
+    ∷ row (grouped form₂ (5 ∷ 0 ∷ 1 ∷ []) second) (0 ∷ 6 ∷ 1 ∷ [])
+    ∷ row (grouped form₂ (5 ∷ 0 ∷ 1 ∷ []) (write form₂ (group-of (5 ∷ 0 ∷ 1 ∷ [])) 65535 second .image)) (0 ∷ 0 ∷ 1 ∷ [])
+    -- With page 1 of the first edition the store is of the second still: UNCLEAN, and a read is NOT HELD.
+    ∷ row (map edition-in (two-pages ∷ second ∷ mixed two-pages second ∷ [])) (1 ∷ 2 ∷ 2 ∷ [])
+    ∷ row (grouped form₂ (5 ∷ 0 ∷ 1 ∷ []) (mixed two-pages second)) (4 ∷ 0 ∷ 0 ∷ [])
+    ∷ row (said (read form₂ 5 (mixed two-pages second))) (8 ∷ 0 ∷ [])
     ∷ []
 
 unfoldable pub table : List Row
-table = rows (format this-form (empty-flash 2048) .image)
+table = rows (format form₁ (empty-flash 2048) .image) (format form₂ (empty-flash 2048) .image)
 
 -- the statement: every row is as section X prints it
 abbrev pub the-examples-hold : Type 0

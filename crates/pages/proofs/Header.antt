@@ -1,14 +1,19 @@
 -- What a page is by its header words, read at their offsets: the rules' wear and state, test by test. Assumes nothing.
-use Prim.Native.Nat.{ℕ, _≤_}
-use mathlib.Core.Path.{_≡_, sym, _∙_}
-use mathlib.Core.Bool.{true, false, cond}
+use Prim.Native.Nat.{ℕ, _≤_, _<_}
+use mathlib.Core.Path.{_≡_, refl, sym, ap, _∙_}
+use mathlib.Core.Bool.{Bool, true, false, cond, _&&_, _||_}
 use mathlib.Core.List.{List}
 use mathlib.Core.Option.{none, some}
 use native.Mathlib.Omega.{arith}
 use lib.ListN.{length, drop}
-use Rattle.rules.specs.Word.{Word, words, low16}
+use borrow.Author.Tests.{eq-eqb, le-leb, lt-leb}
+use Rattle.rules.specs.Word.{Word, words, sound, low16, third}
 use Rattle.rules.specs.Page.{wear-part, opening-part, done-part, slots, is-wear, wear-in, is-opening, order-in, is-done, all-blank, cleared, open₁}
-use Rattle.rules.specs.Page.{open₂, receiving, bad, state-after-wear, state-by, state}
+use Rattle.rules.specs.Page.{Chip, open₂, receiving, bad, state-after-wear, state-by, state}
+use Rattle.rules.specs.Store.{is-open}
+use Rattle.rules.specs.Call.{has-edition, own-edition, opens-itself}
+use Rattle.rules.proofs.Truth.{and-true}
+use Rattle.rules.proofs.Pages.{open-is}
 use Rattle.words.specs.Read.{word-in}
 use Rattle.words.proofs.Parts.{word-of, drop-words}
 
@@ -73,3 +78,58 @@ module _ (s : List ℕ) (wear : ℕ) (h : 12 ≤ length s) {w : Word} (e : w ≡
   pub unopened : is-opening 1 w ≡ false → is-opening 2 w ≡ false → state-after-wear (words s) wear ≡ cond (all-blank (words (drop 4 s))) (cleared wear) bad
   unfolding state-after-wear
   unopened t₁ t₂ = rw (opening-is, t₁, t₂, drop-words 1 s)
+
+-- ---- a page by itself
+
+module _ (s : List ℕ) (h : 12 ≤ length s) (w : Word) (e : w ≡ wear-part (words s)) where
+  -- what makes it open
+  itself-is : (o : Word) → o ≡ word-in s 4 → (d : Word) → d ≡ word-in s 8
+      → is-open (state (third w) (words s)) ≡ (sound w && (is-opening 1 o || (is-opening 2 o && is-done (order-in o) d)))
+  unfolding is-wear
+  itself-is o p d q =
+      open-is (third w) (words s)
+      ∙ rw (← e, opening-at s (omega arith), done-at s h, ← p, ← q, eq-eqb (third w) (third w) refl)
+      (ap (λ (b : Bool). b && (is-opening 1 o || (is-opening 2 o && is-done (order-in o) d))) (and-true (sound w)))
+
+  pub itself-unsound : sound w ≡ false → false ≡ is-open (state (third w) (words s))
+  itself-unsound t = sym (itself-is (word-in s 4) refl (word-in s 8) refl ∙ rw t)
+
+  module _ (t : sound w ≡ true) {o : Word} (p : o ≡ word-in s 4) where
+    pub itself-plain : is-opening 1 o ≡ true → true ≡ is-open (state (third w) (words s))
+    itself-plain u = sym (itself-is o p (word-in s 8) refl ∙ rw (t, u))
+
+    pub itself-done : is-opening 1 o ≡ false → is-opening 2 o ≡ true → (n : ℕ) → n ≡ order-in o → (d : Word) → d ≡ word-in s 8
+        → is-done n d ≡ is-open (state (third w) (words s))
+    itself-done u v n i d q = sym (itself-is o p d q ∙ rw (t, u, v, i))
+
+    pub itself-unopened : is-opening 1 o ≡ false → is-opening 2 o ≡ false → false ≡ is-open (state (third w) (words s))
+    itself-unopened u v = sym (itself-is o p (word-in s 8) refl ∙ rw (t, u, v))
+
+-- the edition of a page that is open by itself
+module _ (c : Chip) (s : List ℕ) (h : 12 ≤ length s) (w : Word) (e : w ≡ word-in s 0) where
+  abbrev pub own : ℕ
+  own = cond (opens-itself c (words s)) (own-edition (words s)) 0
+
+  pub first-word : w ≡ wear-part (words s)
+  first-word = e ∙ sym (wear-at s (omega arith))
+
+  its-edition : own-edition (words s) ≡ third w
+  unfolding own-edition
+  its-edition = ap third (sym first-word)
+
+  pub own-below : third w < c .first → 0 ≡ own
+  unfolding opens-itself has-edition
+  own-below l = rw (its-edition, lt-leb (c .first) (third w) l)
+
+  pub own-above : c .first ≤ third w → c .last < third w → 0 ≡ own
+  unfolding opens-itself has-edition
+  own-above l m = rw (its-edition, le-leb (c .first) (third w) l, lt-leb (third w) (c .last) m)
+
+  module _ (l : c .first ≤ third w) (m : third w ≤ c .last) where
+    pub own-open : is-open (state (third w) (words s)) ≡ true → third w ≡ own
+    unfolding opens-itself has-edition
+    own-open t = rw (its-edition, le-leb (c .first) (third w) l, le-leb (third w) (c .last) m, t)
+
+    pub own-closed : is-open (state (third w) (words s)) ≡ false → 0 ≡ own
+    unfolding opens-itself has-edition
+    own-closed t = rw (its-edition, le-leb (c .first) (third w) l, le-leb (third w) (c .last) m, t)

@@ -1,8 +1,9 @@
 -- What the code's states and forms are in the rules' terms.
 use Prim.Native.Nat.{_≤_}
-use Rattle.rules.specs.Page.{Form, State, cleared, open₁, open₂, receiving, bad}
-use Rattle.rules.specs.Call.{Roomy}
+use Rattle.rules.specs.Page.{Form, Chip, State, cleared, open₁, open₂, receiving, bad}
+use Rattle.rules.specs.Call.{Roomy, RoomyChip}
 use Rattle.pages.specs.declared.Form.{Form as Numbers}
+use Rattle.pages.specs.declared.Chip.{Chip as ChipNumbers}
 use Rattle.pages.specs.declared.State.{State as Answer}
 use Rattle.pages.specs.declared.State.the-variants.{Cleared, Open1, Open2, Receiving, Bad}
 
@@ -21,3 +22,10 @@ as-form f = record { slot-count = f .slots; edition = f .edition }
 -- the forms that the code is for: a page takes all that may be held, and has at most 2,048 bytes
 abbrev pub Lawful : Numbers → Type 0
 Lawful f = Roomy (as-form f) × (f .slots ≤ 509)
+
+-- the chip of three numbers; 0 is no edition
+abbrev pub as-chip : ChipNumbers → Chip
+as-chip c = record { slot-count = c .slots; first = c .first; last = c .last }
+
+abbrev pub LawfulChip : ChipNumbers → Type 0
+LawfulChip c = RoomyChip (as-chip c) × (c .slots ≤ 509) × (1 ≤ c .first)

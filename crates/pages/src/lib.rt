@@ -4,11 +4,13 @@ ghost use mathlib.Core.Path.{_≡_};
 ghost use Prim.Native.Nat.{_*_, _/_, _≤_, _<_};
 ghost use lib.ListN.{length};
 ghost use Rattle.rules.specs.Word.{words};
-ghost use Rattle.rules.specs.Page.{size, is-wear, wear-in, is-opening, order-in, is-done, all-blank, state-after-wear, state};
-ghost use Rattle.rules.specs.Store.{order, or-value, free-slot};
+ghost use Rattle.rules.specs.Page.{size, in-edition, wear-part, is-wear, wear-in, is-opening, order-in, is-done, all-blank, state-after-wear, state};
+ghost use Rattle.rules.specs.Store.{is-open, order, or-value, free-slot};
+ghost use Rattle.rules.specs.Call.{opens-itself, own-edition};
 ghost use Rattle.rules.specs.Steps.{one-more};
 ghost use Rattle.words.specs.Read.{as-word};
-ghost use Rattle.pages.specs.Read.{as-state, as-form, Lawful};
+ghost use Rattle.pages.specs.Read.{as-state, as-form, Lawful, as-chip, LawfulChip};
+ghost use mathlib.Core.Bool.{cond};
 
 // Pages are 2 to 32, orders 0 to 4,194,303.
 pub const PAGES_MIN: usize = 2;
@@ -26,11 +28,31 @@ pub struct Form {
     pub edition: u8,
 }
 
-// The one form that there is: pages of 1,024 bytes.
-pub const FORM: Form = Form {
+// P1. A chip: how many slots its pages have, and the first and the last edition that they may be of.
+pub struct Chip {
+    pub slots: usize,
+    pub first: u8,
+    pub last: u8,
+}
+
+// The one chip that there is: pages of 1,024 bytes, of the first edition or the second.
+pub const CHIP: Chip = Chip {
     slots: 253,
-    edition: 1,
+    first: 1,
+    last: 2,
 };
+
+impl Chip {
+    pub fn form(self, edition: u8) -> Form
+        ensures { λ r. ⌜ as-form r ≡ in-edition (as-chip self) edition ⌝ }
+        ensures { λ r. ⌜ (LawfulChip self → Lawful r) ⌝ }
+    {
+        Form {
+            slots: self.slots,
+            edition,
+        }
+    }
+}
 
 impl Form {
     // The bytes of a page.
@@ -146,6 +168,42 @@ pub fn state_of(page: &[u8], edition: u8) -> State
         return after_wear(page, words::low16(wear));
     }
     State::Bad
+}
+
+// P9. Whether a page is open by itself, its own wear word telling the edition. What its slots hold has no part in that.
+fn is_open_itself(page: &[u8], wear: Word) -> bool
+    requires { ⌜ (12 ≤ length (now page)) × (as-word wear ≡ wear-part (words (now page))) ⌝ }
+    ensures { λ r. ⌜ r ≡ is-open (state (wear .c) (words (now (page .entry)))) ⌝ }
+{
+    if !words::is_sound(wear) {
+        return false;
+    }
+    let opening = words::word_at(page, 4);
+    if is_opening(opening, 1) {
+        return true;
+    }
+    if is_opening(opening, 2) {
+        return is_done(words::word_at(page, 8), order_in(opening));
+    }
+    false
+}
+
+// The edition of a page that is open by itself, if the chip has that edition; else 0, which is none.
+pub fn own_edition(page: &[u8], chip: Chip) -> u8
+    requires { ⌜ 12 ≤ length (now page) ⌝ }
+    ensures { λ r. ⌜ r ≡ cond (opens-itself (as-chip chip) (words (now (page .entry)))) (own-edition (words (now (page .entry)))) 0 ⌝ }
+{
+    let wear = words::word_at(page, 0);
+    if wear.c < chip.first {
+        return 0;
+    }
+    if chip.last < wear.c {
+        return 0;
+    }
+    if is_open_itself(page, wear) {
+        return wear.c;
+    }
+    0
 }
 
 // P4. Wear of a page; `other` for a page that has none.

@@ -8,8 +8,8 @@ use lib.Dec.{eqb}
 use lib.ListN.{length}
 use borrow.Author.Tests.{eqb-true}
 use Rattle.rules.specs.Flash.{Rises}
-use Rattle.rules.specs.Word.{Word, word, check, sound, blank, second-blank, Sound, HalfWritten, Spoiled, condition, low16, checked, record-word}
-use Rattle.rules.specs.Word.{slot-condition}
+use Rattle.rules.specs.Word.{Word, word, check, sound, blank, second-blank, HalfWritten, Spoiled, condition, low16, checked, record-word}
+use Rattle.rules.specs.Word.{recorded, neither, slot}
 use Rattle.rules.specs.Page.{size, word-count}
 use Rattle.rules.specs.Store.{states, base}
 use Rattle.rules.specs.Listing.{used-conditions, half, spoiled}
@@ -27,14 +27,14 @@ not-both-255 a b rest h =
     is-false (eqb a 255 && (eqb b 255 && rest))
     (λ t. h (eqb-true a 255 (and-left (eqb a 255) _ t)) (eqb-true b 255 (and-left (eqb b 255) _ (and-right (eqb a 255) _ t))))
 
-not-begun : (low high : ℕ) → (low ≡ 255 → high ≡ 255 → ⊥) → slot-condition (word low high 255 255) ≡ HalfWritten
-unfolding slot-condition condition blank second-blank
-not-begun low high h = rw (half-not-sound low high 255, not-both-255 low high true h)
+not-begun : (e low high : ℕ) → (low ≡ 255 → high ≡ 255 → ⊥) → slot e (word low high 255 255) ≡ neither HalfWritten
+unfolding slot condition blank second-blank
+not-begun e low high h = rw (half-not-sound low high 255, not-both-255 low high true h)
 
-whole : (a v : ℕ) → a < 65535 → slot-condition (record-word a v) ≡ Sound
-whole a v few = sym (record-told a v (λ e. omega arith))
+whole : (e a v : ℕ) → a < 65535 → slot e (record-word a v) ≡ recorded a v
+whole e a v few = sym (record-told e a v (λ z. omega arith))
 
-module _ (a v c d : ℕ) (few : a < 65535) (pc : Rises 8 v c) (pd : Rises 8 (check (a % 256) (a / 256) v) d) where
+module _ (e a v c d : ℕ) (few : a < 65535) (pc : Rises 8 v c) (pd : Rises 8 (check (a % 256) (a / 256) v) d) where
   abbrev left : Word
   left = word (a % 256) (a / 256) c d
 
@@ -45,15 +45,15 @@ module _ (a v c d : ℕ) (few : a < 65535) (pc : Rises 8 v c) (pd : Rises 8 (che
       is-false (sound left)
       (λ s. h (torn-sound (a % 256) (a / 256) v (check (a % 256) (a / 256) v) c d (record-sound a v) pc pd s))
 
-  broke-later : (c ≡ 255 → d ≡ 255 → ⊥) → (record-word a v ≡ left → ⊥) → slot-condition left ≡ Spoiled
+  broke-later : (c ≡ 255 → d ≡ 255 → ⊥) → (record-word a v ≡ left → ⊥) → slot e left ≡ neither Spoiled
   unfolding low16 second-blank
   broke-later n h =
       let begun : second-blank left ≡ false =
       is-false (second-blank left) (λ t. n (eqb-true c 255 (and-left (eqb c 255) _ t)) (eqb-true d 255 (and-right (eqb c 255) _ t))) in
-      sym (other-told left (λ e. omega (arith, split16 a)) (torn h) begun)
+      sym (other-told e left (λ z. omega (arith, split16 a)) (torn h) begun)
 
 pub how-far : a-cut-record-says-how-far-it-came
-how-far = record { not-begun = not-begun; broke-later = broke-later; whole = whole }
+how-far e = record { not-begun = not-begun e; broke-later = broke-later e; whole = whole e }
 
 pub counted-once : no-slot-counts-twice
 unfolding half spoiled used-conditions pages page-count

@@ -8,23 +8,27 @@ use mathlib.Core.Option.{Option, none}
 use native.Mathlib.Omega.{arith}
 use lib.ListN.{length}
 use lib.Seq.{take-all}
-use borrow.Author.Tests.{leb-true, eq-eqb}
+use borrow.Author.Tests.{leb-true}
 use Rattle.rules.specs.Flash.{Step, run}
-use Rattle.rules.specs.Page.{Form, size}
-use Rattle.rules.specs.Store.{value}
-use Rattle.rules.specs.Call.{Roomy, pages, wrong-size, store-number, write-number, wrong-address, accepted, stepped, recover, write, Formatted, Stepped, OK}
+use Rattle.rules.specs.Page.{Form, size, Chip, in-edition}
+use Rattle.rules.specs.Store.{Setting, value}
+use Rattle.rules.specs.Steps.{Change, settings-of, format-steps}
+use Rattle.rules.specs.Call.{Roomy, RoomyChip, form-of, page-count, pages, wrong-size, store-number, write-number, a-wrong-address, accepted, stepped}
+use Rattle.rules.specs.Call.{recover, write, Formatted, Stepped, OK}
 use Rattle.rules.proofs.Truth.{by-cases}
 use Rattle.rules.proofs.Rows.{write-fails}
 use Rattle.rules.proofs.Answers.{format-refused, format-done, stepped-done}
 use Rattle.rules.proofs.Plans.{BytesLeft, left-after}
+use Rattle.rules.proofs.Groups.{change-distinct}
+use Rattle.rules.proofs.Editions.{accepted-editions}
 use Rattle.rules.proofs.Good.{changed}
-use Rattle.rules.proofs.Healthy.{Healthy, store-ok, accepted-healthy, format-healthy, recovery-left, recovery-run, recovery-cleans, write-left, write-later}
-use Rattle.rules.proofs.Healthy.{write-run}
-use Rattle.promise.specs.Calls.{Image, Question, value-at, Answer, Asks, EachAnswer, with-value, Calls, Obeys}
+use Rattle.rules.proofs.Healthy.{Healthy, store-ok, form-told, form-kept, accepted-healthy, format-healthy, recovery-left, recovery-run, recovery-cleans}
+use Rattle.rules.proofs.Healthy.{write-left, write-later, write-run}
+use Rattle.promise.specs.Calls.{Image, Question, value-at, Answer, AsksNone, EachAnswer, with-values, Calls, Obeys}
 use Rattle.promise.specs.History.{recovery-of, write-of, FailsAfter, RecoveryLeaves, WriteLeaves, InUse, formatted, recovered, written}
 use Rattle.promise.specs.History.{Recoveries, none as no-more, more, Interrupted}
 use Rattle.promise.specs.Promise.{Same, AnswersEach, Changed, Found, NothingLost, Mended, the-promise}
-use Rattle.promise.proofs.Answers.{answer-by, answers-are, with-given, answer-changed, not-asked, not-refused}
+use Rattle.promise.proofs.Answers.{answer-by, answers-are, with-given, answer-changed, not-asked, each-map, each-found, not-refused}
 
 -- ---- a call with steps
 
@@ -47,156 +51,213 @@ module _ (fm : Form) (number n : ℕ) (ss : List Step) (i : Image) (s : Stepped)
 
 -- ---- calls that obey the rules
 
-module _ (fm : Form) (roomy : Roomy fm) (C : Calls) (obeys : Obeys fm C) where
-  abbrev Well : (ℕ → Option ℕ) → Image → Type 0
-  Well = Healthy fm (Unit {0})
+module _ (chip : Chip) (roomy : RoomyChip chip) (C : Calls) (obeys : Obeys chip C) where
+  -- the form of an image
+  abbrev form : Image → Form
+  form = form-of chip
 
-  recovery-keeps : {t : ℕ → Option ℕ} {i j : Image} → Well t i → RecoveryLeaves fm C i j → Well t j
+  form-roomy : (i : Image) → Roomy (form i)
+  unfolding form-of
+  form-roomy i = roomy .0
+
+  -- a healthy store, read by its own edition
+  abbrev WellIf : (May : Type 0) → (ℕ → Option ℕ) → Image → Type 0
+  WellIf May t i = Healthy (form i) May (Unit {0}) t i
+
+  abbrev pub Well : (ℕ → Option ℕ) → Image → Type 0
+  Well = WellIf (Unit {0})
+
+  -- what steps leave is read by the same edition
+  carry : {May : Type 0} {t : ℕ → Option ℕ} (i : Image) {j : Image} → Healthy (form i) May (Unit {0}) t j → WellIf May t j
+  carry {May} {t} i {j} h = subst (λ (fm : Form). Healthy fm May (Unit {0}) t j) (sym (form-kept chip (roomy .1) i h)) h
+
+  recovery-leaves : {t : ℕ → Option ℕ} {i j : Image} → Well t i → RecoveryLeaves chip C i j → Healthy (form i) (Unit {0}) (Unit {0}) t j
   unfolding recover
-  recovery-keeps {i = i} {j = j} h r =
+  recovery-leaves {i = i} {j = j} h r =
+      let fm = form i in
       recovery-left h tt
       (called-left fm (store-number fm i) (r .allowance) (recovery-of fm i) i (r .done)
       (obeys .recovers (r .allowance) i (r .done) (r .called)) (store-ok h) j (r .fails))
 
-  recoveries-keep : {t : ℕ → Option ℕ} {i k : Image} → Well t i → Recoveries fm C i k → Well t k
+  recovery-keeps : {t : ℕ → Option ℕ} {i j : Image} → Well t i → RecoveryLeaves chip C i j → Well t j
+  recovery-keeps {i = i} h r = carry i (recovery-leaves h r)
+
+  recoveries-keep : {t : ℕ → Option ℕ} {i k : Image} → Well t i → Recoveries chip C i k → Well t k
   recoveries-keep h no-more = h
   recoveries-keep h (more r rest) = recoveries-keep (recovery-keeps h r) rest
 
-  module _ {a v : ℕ} {i : Image} {n : ℕ} {j : Image} (w : WriteLeaves fm C a v i n j) where
-    as-written : w .done ≡ write fm a v (w .allowance) i
-    as-written = obeys .writes a v (w .allowance) i (w .done) (w .called)
+  recoveries-form : {t : ℕ → Option ℕ} {i k : Image} → Well t i → Recoveries chip C i k → form k ≡ form i
+  recoveries-form h no-more = refl
+  recoveries-form {i = i} h (more r rest) = recoveries-form (recovery-keeps h r) rest ∙ form-kept chip (roomy .1) i (recovery-leaves h r)
 
-    write-ok : write-number fm a v i ≡ OK
+  module _ {c : Change} {i : Image} {n : ℕ} {j : Image} (w : WriteLeaves chip C c i n j) where
+    as-written : w .done ≡ write (form i) c (w .allowance) i
+    as-written = obeys .writes c (w .allowance) i (w .done) (w .called)
+
+    write-ok : write-number (form i) c i ≡ OK
     unfolding write
-    write-ok = sym (called-number fm (write-number fm a v i) (w .allowance) (write-of fm a v i) i (w .done) as-written) ∙ w .accepted
+    write-ok = sym (called-number (form i) (write-number (form i) c i) (w .allowance) (write-of (form i) c i) i (w .done) as-written) ∙ w .accepted
 
-    write-bytes : BytesLeft (size fm) n (write-of fm a v i) i j
+    write-bytes : BytesLeft (size (form i)) n (write-of (form i) c i) i j
     unfolding write
     write-bytes =
-        subst (λ (m : ℕ). BytesLeft (size fm) m (write-of fm a v i) i j) (w .counted)
-        (called-left fm (write-number fm a v i) (w .allowance) (write-of fm a v i) i (w .done) as-written write-ok j (w .fails))
+        let fm = form i in
+        subst (λ (m : ℕ). BytesLeft (size fm) m (write-of fm c i) i j) (w .counted)
+        (called-left fm (write-number fm c i) (w .allowance) (write-of fm c i) i (w .done) as-written write-ok j (w .fails))
 
-  pub in-use-healthy : {i : Image} → InUse fm C i → (t : ℕ → Option ℕ) × Well t i
-  in-use-healthy (formatted i f x ok) =
-      let e = obeys .formats i f x in
+  -- a write leaves the old values or the new
+  write-keeps : {t : ℕ → Option ℕ} {c : Change} {i j : Image} {n : ℕ} → Well t i → WriteLeaves chip C c i n j
+      → Well t j ⊎ Well (changed (settings-of c) t) j
+  write-keeps {c = c} {i = i} h w = ⊎-elim (λ k. inl (carry i k)) (λ k. inr (carry i k)) (write-left h c (write-ok w) tt (write-bytes w))
+
+  pub in-use-healthy : {i : Image} → InUse chip C i → (t : ℕ → Option ℕ) × Well t i
+  in-use-healthy (formatted e i f x ok) =
+      let is = obeys .formats e i f x in
+      let fm = in-edition chip e in
       by-cases (wrong-size fm i)
-      (λ w. absurd (one-not-zero (sym (ap (λ (g : Formatted). g .number) (e ∙ format-refused fm i w)) ∙ ok)))
-      (λ w. ((λ x. none), subst (Well (λ x. none)) (sym (ap (λ (g : Formatted). g .image) (e ∙ format-done fm i w))) (format-healthy fm roomy i w)))
+      (λ w. absurd (one-not-zero (sym (ap (λ (g : Formatted). g .number) (is .1 ∙ format-refused fm i w)) ∙ ok)))
+      (λ w.
+      let h = format-healthy fm (roomy .0) i w in (
+        (λ x. none),
+        subst (Well (λ x. none)) (sym (ap (λ (g : Formatted). g .image) (is .1 ∙ format-done fm i w)))
+            (subst (λ (g : Form). Healthy g (Unit {0}) (Unit {0}) (λ x. none) (run (size fm) (format-steps e (page-count fm i)) i))
+            (sym (form-told chip e (is .0) h)) h),
+      ))
     where
       one-not-zero : _≡_ {A = ℕ} 1 0 → ⊥
       one-not-zero e = omega arith
   in-use-healthy (recovered u r) = let h = in-use-healthy u in (h .0, recovery-keeps (h .1) r)
-  in-use-healthy (written a v u w) =
+  in-use-healthy (written c u w) =
       let h = in-use-healthy u in
-      ⊎-elim (λ k. (h .0, k)) (λ k. (changed a v (h .0), k)) (write-left (h .1) a v (write-ok w) tt (write-bytes w))
+      ⊎-elim (λ k. (h .0, k)) (λ k. (changed (settings-of c) (h .0), k)) (write-keeps (h .1) w)
 
   -- ---- answers
 
-  same : {M N : Type 0} {t : ℕ → Option ℕ} {i k : Image} → Healthy fm M t i → Healthy fm N t k → (q : Question) → Same fm C q i k
+  same : {M N : Type 0} {t : ℕ → Option ℕ} {i k : Image} → WellIf M t i → WellIf N t k → (q : Question) → Same chip C q i k
   same {i = i} {k = k} h g q before after x y =
       obeys .answers q k after y ∙ answers-are g q ∙ sym (answers-are h q) ∙ sym (obeys .answers q i before x)
 
-  changes : {M N : Type 0} {t : ℕ → Option ℕ} {i k : Image} (a v : ℕ) → wrong-address a ≡ false → Healthy fm M t i → Healthy fm N (changed a v t) k
-      → (q : Question) → Changed fm C a v q i k
-  changes {t = t} {i = i} {k = k} a v w h g q before after x y =
-      obeys .answers q k after y ∙ answers-are g q ∙ answer-changed a v t w q
-      ∙ sym (with-given a v before (answer-by t) (λ p. obeys .answers p i (before p) (x p) ∙ answers-are h p) q)
+  module _ (rs : List Setting) (w : a-wrong-address rs ≡ false) {M N : Type 0} {t : ℕ → Option ℕ} {i k : Image} (h : WellIf M t i)
+      (g : WellIf N (changed rs t) k) where
+    changes : (q : Question) → Changed chip C rs q i k
+    changes q before after x y =
+        obeys .answers q k after y ∙ answers-are g q ∙ answer-changed rs t w q
+        ∙ sym (with-given rs before (answer-by t) (λ p. obeys .answers p i (before p) (x p) ∙ answers-are h p) q)
 
-  -- what does not ask for the address answers as before
-  others-same : {M N : Type 0} {t : ℕ → Option ℕ} {i k : Image} (a v : ℕ) → wrong-address a ≡ false → Healthy fm M t i → Healthy fm N (changed a v t) k
-      → (q : Question) → (Asks q a → ⊥) → Same fm C q i k
-  others-same {t = t} {i = i} {k = k} a v w h g q not-of before after x y =
-      let was : before ≡ answer-by t q = obeys .answers q i before x ∙ answers-are h q in
-      obeys .answers q k after y ∙ answers-are g q ∙ answer-changed a v t w q ∙ not-asked a v t q not-of ∙ sym was
+    -- what asks for none of the addresses answers as before
+    others-same : (q : Question) → AsksNone q rs → Same chip C q i k
+    others-same q none-of before after x y =
+        let was : before ≡ answer-by t q = obeys .answers q i before x ∙ answers-are h q in
+        obeys .answers q k after y ∙ answers-are g q ∙ not-asked rs t q none-of ∙ sym was
 
   -- ---- what a finished write puts at an address, a read finds
 
-  found : (i : Image) (a v n : ℕ) (s : Stepped) → C .Writes a v n i s → s .number ≡ OK → s .finished ≡ true → Found fm C a v i (s .image)
-  unfolding write with-value
-  found i a v n s x ok fin =
-      let is = obeys .writes a v n i s x in
-      let number = sym (called-number fm (write-number fm a v i) n (write-of fm a v i) i s is) ∙ ok in
-      let h = accepted-healthy fm roomy i (write-fails fm i a v number .stored) in
-      let w = write-fails fm i a v number .address in
-      let e = called-run fm (write-number fm a v i) n (write-of fm a v i) i s is number fin in
-      let g = subst (Healthy fm ⊥ (changed a v (λ x. value x (pages fm i)))) (sym e) (write-run h a v number) in
+  found : (i : Image) (c : Change) (n : ℕ) (s : Stepped) → C .Writes c n i s → s .number ≡ OK → s .finished ≡ true → Found chip C (settings-of c) i (s .image)
+  unfolding write
+  found i c n s x ok fin =
+      let fm = form i in
+      let rs = settings-of c in
+      let is = obeys .writes c n i s x in
+      let number = sym (called-number fm (write-number fm c i) n (write-of fm c i) i s is) ∙ ok in
+      let fails = write-fails fm i c number in
+      let h = accepted-healthy fm (form-roomy i) (Unit {0}) i (fails .stored) (λ one. accepted-editions fm i (fails .clean)) in
+      let e = called-run fm (write-number fm c i) n (write-of fm c i) i s is number fin in
+      let t : ℕ → Option ℕ = λ x. value x (pages fm i) in
+      let g = carry i (subst (Healthy fm ⊥ (Unit {0}) (changed rs t)) (sym e) (write-run h c number)) in
       record {
-        there = λ r y.
-            obeys .answers (value-at a) (s .image) r y ∙ answers-are g (value-at a)
-            ∙ answer-changed a v (λ x. value x (pages fm i)) w (value-at a) ∙ rw (eq-eqb a a refl);
-        elsewhere = others-same a v w h g;
-        everywhere = changes a v w h g;
+        there = each-map (λ a v found r y. obeys .answers (value-at a) (s .image) r y ∙ answers-are g (value-at a) ∙ found) rs
+            (each-found rs t (change-distinct (fm .edition) c (fails .grouped)) (fails .addressed));
+        elsewhere = others-same rs (fails .addressed) h g;
+        everywhere = changes rs (fails .addressed) h g;
       }
 
   -- ---- nothing is lost
 
-  module _ (i : Image) (u : InUse fm C i) (a v : ℕ) where
+  module _ (i : Image) (u : InUse chip C i) (c : Change) where
+    abbrev rs : List Setting
+    rs = settings-of c
+
     abbrev t : ℕ → Option ℕ
     t = in-use-healthy u .0
 
     abbrev h : Well t i
     h = in-use-healthy u .1
 
-    module _ {n : ℕ} {k : Image} (x : Interrupted fm C a v i n k) where
-      address-ok : wrong-address a ≡ false
-      address-ok = write-fails fm i a v (write-ok (x .write)) .address
+    module _ {n : ℕ} {k : Image} (x : Interrupted chip C c i n k) where
+      addressed : a-wrong-address rs ≡ false
+      addressed = write-fails (form i) i c (write-ok (x .write)) .addressed
 
-      pub either : Well t k ⊎ Well (changed a v t) k
-      either =
-          ⊎-elim (λ g. inl (recoveries-keep g (x .then))) (λ g. inr (recoveries-keep g (x .then)))
-          (write-left h a v (write-ok (x .write)) tt (write-bytes (x .write)))
+      pub either : Well t k ⊎ Well (changed rs t) k
+      either = ⊎-elim (λ g. inl (recoveries-keep g (x .then))) (λ g. inr (recoveries-keep g (x .then))) (write-keeps h (x .write))
 
-      old-or-new : ((q : Question) → Same fm C q i k) ⊎ ((q : Question) → Changed fm C a v q i k)
-      old-or-new = ⊎-elim (λ g. inl (same h g)) (λ g. inr (changes a v address-ok h g)) either
+      -- and the store is read by the same edition
+      pub form-stays : form k ≡ form i
+      form-stays =
+          ⊎-elim (λ g. recoveries-form (carry i g) (x .then) ∙ form-kept chip (roomy .1) i g)
+          (λ g. recoveries-form (carry i g) (x .then) ∙ form-kept chip (roomy .1) i g)
+          (write-left h c (write-ok (x .write)) tt (write-bytes (x .write)))
 
-      in-use-then : {j l : Image} → InUse fm C j → Recoveries fm C j l → InUse fm C l
+      old-or-new : ((q : Question) → Same chip C q i k) ⊎ ((q : Question) → Changed chip C rs q i k)
+      old-or-new = ⊎-elim (λ g. inl (same h g)) (λ g. inr (changes rs addressed h g)) either
+
+      in-use-then : {j l : Image} → InUse chip C j → Recoveries chip C j l → InUse chip C l
       in-use-then w no-more = w
       in-use-then w (more r rest) = in-use-then (recovered w r) rest
 
-    new-stays : {n m : ℕ} {k l : Image} → Interrupted fm C a v i n k → Interrupted fm C a v i m l → n < m
-        → (q : Question) (old : EachAnswer) (one later : Answer q) → AnswersEach fm C i old → C .Answers q k one → C .Answers q l later
-        → one ≡ with-value a v old q → later ≡ with-value a v old q
+    new-stays : {n m : ℕ} {k l : Image} → Interrupted chip C c i n k → Interrupted chip C c i m l → n < m
+        → (q : Question) (old : EachAnswer) (one later : Answer q) → AnswersEach chip C i old → C .Answers q k one → C .Answers q l later
+        → one ≡ with-values rs old q → later ≡ with-values rs old q
     new-stays x y lt q old one later p r s e =
         ⊎-elim
         (λ g.
-        let was : old q ≡ with-value a v old q = sym (same h (recoveries-keep g (x .then)) q (old q) one (p q) r) ∙ e in
+        let was : old q ≡ with-values rs old q = sym (same h (recoveries-keep (carry i g) (x .then)) q (old q) one (p q) r) ∙ e in
         ⊎-elim (λ f. f q (old q) later (p q) s ∙ was) (λ f. f q old later p s) (old-or-new y))
-        (λ g. changes a v (address-ok y) h (recoveries-keep g (y .then)) q old later p s)
-        (write-later h a v (write-ok (x .write)) tt (write-bytes (x .write)) (write-bytes (y .write)) lt)
+        (λ g. changes rs (addressed y) h (recoveries-keep (carry i g) (y .then)) q old later p s)
+        (write-later h c (write-ok (x .write)) tt (write-bytes (x .write)) (write-bytes (y .write)) lt)
 
-    nothing-lost : NothingLost fm C a v i
+    nothing-lost : NothingLost chip C c i
     nothing-lost =
         record {
-          others = λ x q not-of. ⊎-elim (λ g. same h g q) (λ g. others-same a v (address-ok x) h g q not-of) (either x);
+          others = λ x q none-of. ⊎-elim (λ g. same h g q) (λ g. others-same rs (addressed x) h g q none-of) (either x);
           old-or-new = old-or-new;
           new-stays = new-stays;
-          still-in-use = λ x. in-use-then x (written a v u (x .write)) (x .then);
+          still-in-use = λ x. in-use-then x (written c u (x .write)) (x .then);
         }
 
   -- ---- a recovery mends
 
-  mended : (i : Image) → InUse fm C i → Mended fm C i
-  unfolding recover write
-  mended i u =
-      record {
-        answers = λ r. same h (recoveries-keep h r);
-        accepted = λ n s x. called-number fm (store-number fm i) n (recovery-of fm i) i s (obeys .recovers n i s x) ∙ store-ok h;
-        clean = λ n s x fin. rw (finished n s x fin) (recovery-cleans h);
-        writable = λ n s x fin a v m w y.
-            rw (
-              called-number fm (write-number fm a v (s .image)) m (write-of fm a v (s .image)) (s .image) w
-                  (obeys .writes a v m (s .image) w y),
-              finished n s x fin,
-            )
-            (not-refused fm a v (run (size fm) (recovery-of fm i) i) (store-ok (recovery-run h)) (recovery-cleans h));
-      }
-    where
-      h : Healthy fm (Unit {0}) (in-use-healthy u .0) i
-      h = in-use-healthy u .1
+  module _ (i : Image) (u : InUse chip C i) where
+    abbrev healthy : Well (in-use-healthy u .0) i
+    healthy = in-use-healthy u .1
 
-      finished : (n : ℕ) (s : Stepped) → C .Recovers n i s → s .finished ≡ true → s .image ≡ run (size fm) (recovery-of fm i) i
-      finished n s x fin = called-run fm (store-number fm i) n (recovery-of fm i) i s (obeys .recovers n i s x) (store-ok h) fin
+    -- the image when it has finished
+    abbrev done : Image
+    done = run (size (form i)) (recovery-of (form i) i) i
+
+    finished : (n : ℕ) (s : Stepped) → C .Recovers n i s → s .finished ≡ true → s .image ≡ done
+    unfolding recover
+    finished n s x fin = called-run (form i) (store-number (form i) i) n (recovery-of (form i) i) i s (obeys .recovers n i s x) (store-ok healthy) fin
+
+    same-form : form done ≡ form i
+    same-form = form-kept chip (roomy .1) i (recovery-run healthy)
+
+    mended : Mended chip C i
+    unfolding recover write
+    mended =
+        record {
+          answers = λ r. same healthy (recoveries-keep healthy r);
+          accepted = λ n s x. called-number (form i) (store-number (form i) i) n (recovery-of (form i) i) i s (obeys .recovers n i s x) ∙ store-ok healthy;
+          clean = λ n s x fin. rw (finished n s x fin, same-form) (recovery-cleans healthy);
+          writable = λ n s x fin c m w y.
+              let j = s .image in
+              rw (
+                called-number (form j) (write-number (form j) c j) m (write-of (form j) c j) j w (obeys .writes c m j w y),
+                finished n s x fin,
+                same-form,
+              )
+              (not-refused (form i) c done (store-ok (recovery-run healthy)) (recovery-cleans healthy));
+        }
 
 pub kept : the-promise
-kept fm roomy C obeys =
-    record { finds-what-is-written = found fm roomy C obeys; loses-nothing = nothing-lost fm roomy C obeys; mends = mended fm roomy C obeys }
+kept chip roomy C obeys =
+    record { finds-what-is-written = found chip roomy C obeys; loses-nothing = nothing-lost chip roomy C obeys; mends = mended chip roomy C obeys }

@@ -3,23 +3,26 @@
 use Prim.Native.Nat.{ℕ, zero, suc, _+_, _-_, _*_, _≤_, _<_}
 use mathlib.Core.Path.{_≡_, refl, sym, ap, ap₂, _∙_, subst}
 use mathlib.Core.Bool.{true, false}
-use mathlib.Core.List.{List, [], _∷_, _++_}
+use mathlib.Core.List.{List, [], _∷_, _++_, map}
 use mathlib.Core.Option.{some}
 use native.Mathlib.Omega.{arith}
 use lib.ListN.{length, take, drop, length-append, length-map, replicate}
 use lib.Seq.{take-append-seam, drop-append-seam}
-use lib.Dec.{leb, ltb}
-use borrow.Author.Tests.{le-leb, eq-eqb, ne-eqb}
-use Rattle.rules.specs.Word.{Word, word, words, wear-word, opening-word, zeros, check, checked, sound, blank, condition, slot-condition, low16, third}
+use lib.Dec.{leb}
+use borrow.Author.Tests.{le-leb, le-ltb, eq-eqb, ne-eqb}
+use Rattle.rules.specs.Word.{Word, word, words, wear-word, opening-word, zeros, check, checked, sound, blank, slot, sound-slot, low16, third, has-groups}
 use Rattle.rules.specs.Word.{record-word}
 use Rattle.rules.specs.Page.{size, blank-word, open₁, Page, page, state, slots}
 use Rattle.rules.specs.Store.{states, order₂, base, used, is-cleared, order, greatest, used-pages, add-page, active-order, active-index, index-of}
-use Rattle.rules.specs.Store.{is-active, page-at, active-slots, past, free-slot, count, oldest-first, Setting, setting, add-record, records}
-use Rattle.rules.specs.Store.{each, all-records, journal, or-else, last-of, put, put-all, settings, value}
-use Rattle.rules.specs.Steps.{unclean, but, move-records, has-free-slot, is-value, taken, next-order, new-page, way, way-steps, write-steps}
-use Rattle.rules.specs.Call.{this-form, page-count, pages, cut, repeats, is-unclean, is-held, no-room, order-end, write-number, OK}
-use Rattle.rules.proofs.Pages.{replicate-all-blank, wear-is-wear, opened-plain, fresh-cleared}
-use Rattle.rules.proofs.Slots.{blank-records, written}
+use Rattle.rules.specs.Store.{is-active, page-at, active-page, active-slots, has-room, past, free-slot, count, oldest-first, Setting, setting, scan}
+use Rattle.rules.specs.Store.{counted as counted-at, behind, records, each, all-records, journal, or-else, last-of, put, put-all, settings, held, value}
+use Rattle.rules.specs.Steps.{unclean, Change, single, settings-of, words-of, record-of, but, but-all, move-records, is-value, all-values, taken, next-order}
+use Rattle.rules.specs.Steps.{new-page, way, way-steps, write-steps}
+use Rattle.rules.specs.Call.{page-count, pages, cut, repeats, is-unclean, wrong-group, wrong-address, a-wrong-address, is-held, is-new, no-room}
+use Rattle.rules.specs.Call.{order-end, write-number, OK}
+use Rattle.rules.proofs.Pages.{wear-is-wear, opened-plain, fresh-cleared}
+use Rattle.rules.proofs.Slots.{blank-records}
+use Rattle.rules.proofs.Groups.{none-open}
 use Rattle.rules.proofs.Stores.{Below, Under, orders, under-below, journal-amid, repeats-insert}
 use Rattle.rules.proofs.Phases.{Pages}
 use Rattle.rules.proofs.Cut.{AllLength}
@@ -28,11 +31,11 @@ use Rattle.rules.proofs.Answers.{write-ok}
 use Rattle.rules.proofs.Active.{active-is}
 use Rattle.rules.proofs.Ready.{taken-within}
 use Rattle.rules.proofs.Good.{Frame, Good, long-whole, good-ordered, journal-is}
-use Rattle.rules.proofs.Healthy.{frame, Healthy, value-here, store-ok}
+use Rattle.rules.proofs.Healthy.{frame, Healthy, value-here, few-here, store-ok}
 use Rattle.rules.proofs.Lengths.{move-long}
 use Rattle.promise.specs.Calls.{Image}
 use Rattle.promise.specs.History.{write-of}
-use Rattle.promise.specs.Corollaries.{Longest, a-longest-write}
+use Rattle.promise.specs.Corollaries.{this-form, Longest, a-longest-write}
 
 -- ---- an image of pages of words
 
@@ -80,7 +83,7 @@ all : List Setting
 all = rising 192 0 ++ replicate 61 (setting 0 0)
 
 full-page : (order : ℕ) → List Word
-full-page o = wear-word 1 1 ∷ opening-word 1 o ∷ blank-word ∷ written all
+full-page o = wear-word 1 1 ∷ opening-word 1 o ∷ blank-word ∷ map record-of all
 
 old-page : (order : ℕ) → List Word
 old-page o = wear-word 1 1 ∷ opening-word 1 o ∷ replicate 254 blank-word
@@ -92,15 +95,15 @@ olds (suc m) = old-page m ∷ olds m
 
 -- what is computed of the records
 record Computed : Type 0 where
-  many : length (written all) ≡ 253
-  read-back : records (written all) ≡ all
+  many : length (map record-of all) ≡ 253
+  read-back : records 1 (map record-of all) ≡ all
   held-many : length (put-all [] all) ≡ 192
-  copied-many : length (move-records 0 1 (put-all [] all)) ≡ 192
+  copied-many : length (move-records (setting 0 1 ∷ []) (put-all [] all)) ≡ 192
   first-value : last-of 0 all ≡ some 0
-  none-free : free-slot (written all) ≡ 253
+  none-free : free-slot (map record-of all) ≡ 253
 
 computed : Computed
-unfolding all rising written records add-record slot-condition condition sound low16 third put put-all but last-of or-else free-slot past blank
+unfolding all rising records scan counted-at behind slot sound-slot sound low16 third put put-all but but-all last-of or-else free-slot past blank
     record-word checked check zeros
 computed = record { many = refl; read-back = refl; held-many = refl; copied-many = refl; first-value = refl; none-free = refl }
 
@@ -141,7 +144,7 @@ record Stack (m : ℕ) (J : List Setting) (F : Pages) : Type 0 where
   many : length F ≡ suc m
 
 -- one more, of the next order
-on-top : {m : ℕ} {F : Pages} → Stack m [] F → (pg : List Word) → state 1 pg ≡ open₁ m → length pg ≡ 256 → Stack (suc m) (records (slots pg)) (pg ∷ F)
+on-top : {m : ℕ} {F : Pages} → Stack m [] F → (pg : List Word) → state 1 pg ≡ open₁ m → length pg ≡ 256 → Stack (suc m) (records 1 (slots pg)) (pg ∷ F)
 unfolding down page states base greatest order₂ used used-pages add-page orders order count is-cleared unclean AllLength Below
 on-top {m} {F} t pg s l =
     let u : leb 0 m ≡ true = le-leb 0 m (omega arith) in
@@ -166,7 +169,7 @@ older zero =
     let s = fresh-cleared 1 1 255 in
     record { is-base = rw s; has-orders = rw s; has-journal = rw s; one-cleared = rw s; all-clean = rw s; long = (refl, tt); many = refl }
 older (suc m) =
-    subst (λ (J : List Setting). Stack (suc m) J (old-page m ∷ olds m)) (blank-records (replicate 253 blank-word) (replicate-all-blank 253))
+    subst (λ (J : List Setting). Stack (suc m) J (old-page m ∷ olds m)) (blank-records 1 253)
     (on-top (older m) (old-page m) (opened-plain 1 (wear-word 1 1) (wear-is-wear 1 1) m (replicate 254 blank-word)) refl)
 
 -- ---- the whole store
@@ -180,7 +183,7 @@ module _ (m : ℕ) (few : m ≤ 30) where
 
   full-state : state 1 (full-page m) ≡ open₁ m
   unfolding full-page
-  full-state = opened-plain 1 (wear-word 1 1) (wear-is-wear 1 1) m (blank-word ∷ written all)
+  full-state = opened-plain 1 (wear-word 1 1) (wear-is-wear 1 1) m (blank-word ∷ map record-of all)
 
   stack : Stack (suc m) all store
   unfolding full-page slots
@@ -192,7 +195,7 @@ module _ (m : ℕ) (few : m ≤ 30) where
   two = omega arith
 
   abbrev c : Frame
-  c = frame this-form (omega arith) ⊥ (suc (suc m)) two
+  c = frame this-form (omega arith) ⊥ ⊥ (suc (suc m)) two
 
   good : Good c all store
   unfolding down
@@ -207,7 +210,7 @@ module _ (m : ℕ) (few : m ≤ 30) where
         some = omega arith;
         few = omega arith;
         keeps = record {
-          whole = long-whole c (λ z. z) store (stack .long);
+          whole = long-whole c (λ z. z) store (λ z. absurd z) (stack .long);
           count = stack .many;
           is-base = stack .is-base;
           has-orders = stack .has-orders;
@@ -232,7 +235,7 @@ module _ (m : ℕ) (few : m ≤ 30) where
   unfolding pages
   pages-are = ap (λ (n : ℕ). told 1 (cut (size this-form) n image)) counted ∙ ap (told 1) cut-is
 
-  healthy : Healthy this-form ⊥ (λ x. last-of x all) image
+  healthy : Healthy this-form ⊥ ⊥ (λ x. last-of x all) image
   healthy =
       record {
         roomy = omega arith;
@@ -243,9 +246,9 @@ module _ (m : ℕ) (few : m ≤ 30) where
         has = record { journal = all; values = λ x. refl; good = subst (Good c all) (sym cut-is) good };
       }
 
-  clean : is-unclean (states (pages this-form image)) ≡ false
-  unfolding is-unclean
-  clean = rw (pages-are, stack .is-base, stack .all-clean)
+  clean : is-unclean (pages this-form image) ≡ false
+  unfolding is-unclean has-groups
+  clean = rw (pages-are, stack .is-base, stack .all-clean) (none-open 1 store refl)
 
   first-value : value 0 (pages this-form image) ≡ some 0
   first-value = value-here healthy 0 ∙ computed .first-value
@@ -259,26 +262,38 @@ module _ (m : ℕ) (few : m ≤ 30) where
   unfolding active-index index-of is-active states page order used
   active-first = rw (newest, stack .is-base, full-state, le-leb 0 m (omega arith), eq-eqb m m refl)
 
-  none-free : has-free-slot ps ≡ false
-  unfolding has-free-slot active-slots page full-page slots
+  none-free : has-room 1 ps ≡ false
+  unfolding has-room active-page active-slots page full-page slots
   none-free =
-      ap (λ (k : ℕ). ltb (free-slot (page-at k ps .slots)) (length (page-at k ps .slots))) active-first ∙ rw (computed .none-free, computed .many)
+      ap (λ (k : ℕ). leb (free-slot (page-at k ps .slots) + 1) (length (page-at k ps .slots))) active-first ∙ rw (computed .none-free, computed .many)
 
-  accepted : write-number this-form 0 1 image ≡ OK
-  unfolding is-value no-room is-held order-end
+  abbrev change : Change
+  change = single 0 1
+
+  fresh : all-values (settings-of change) (pages this-form image) ≡ false
+  unfolding settings-of all-values is-value
+  fresh = rw first-value
+
+  room : no-room (settings-of change) (pages this-form image) ≡ false
+  unfolding no-room settings-of count is-new is-held
+  room = rw first-value (le-ltb 192 (held (pages this-form image) + (0 + 0)) (omega (arith, few-here healthy)))
+
+  accepted : write-number this-form change image ≡ OK
+  unfolding wrong-group a-wrong-address wrong-address settings-of words-of order-end
   accepted =
-      write-ok this-form 0 1 image (store-ok healthy) clean (omega arith) (rw first-value) (rw first-value)
+      write-ok this-form change image (store-ok healthy) clean refl refl fresh room
       (rw (pages-are, none-free, newest) (ne-eqb m 4194303 (λ e. omega arith)))
 
-  long : length (write-of this-form 0 1 image) ≡ 388 + 3 * (suc (suc m) - 1)
-  unfolding write-steps way way-steps new-page is-value settings
+  long : length (write-of this-form change image) ≡ 388 + 3 * (suc (suc m) - 1)
+  unfolding write-steps way way-steps new-page settings settings-of words-of
   long =
       let many : length ps ≡ suc (suc m) = length-map store (page 1) ∙ stack .many in
       let inside : taken ps < length ps = rw (many, ← counted, ← pages-are) (taken-within this-form image (store-ok healthy) clean) in
-      let copied : length (move-records 0 1 (put-all [] (journal ps))) ≡ 192 =
+      let copied : length (move-records (setting 0 1 ∷ []) (put-all [] (journal ps))) ≡ 192 =
       rw (journal-is c all store good) (computed .copied-many) in
-      rw (first-value, pages-are, none-free, stack .one-cleared)
-      (omega (arith, move-long (this-form .edition) (taken ps) (next-order ps) (move-records 0 1 (settings ps)) ps inside))
+      let s : all-values (setting 0 1 ∷ []) ps ≡ false = rw pages-are at fresh in
+      rw (pages-are, s, none-free, stack .one-cleared)
+      (omega (arith, move-long (this-form .edition) (taken ps) (next-order ps) (move-records (setting 0 1 ∷ []) (settings ps)) ps inside))
 
 pub longest-there : a-longest-write
 longest-there n l h =

@@ -2,6 +2,7 @@
 use Prim.Native.Nat.{ℕ, zero, suc, _+_, _≤_, _<_}
 use mathlib.Core.Path.{_≡_, refl, sym, ap, ap₂, _∙_, subst}
 use mathlib.Core.Logic.{_⊎_, inl, inr, ⊎-elim}
+use mathlib.Core.Bool.{Bool, true}
 use mathlib.Core.List.{List, [], _∷_, _++_, append-assoc}
 use mathlib.Core.Option.{none, some}
 use native.Mathlib.Omega.{arith}
@@ -10,11 +11,11 @@ use lib.Seq.{getD-at}
 use lib.Dec.{leb}
 use borrow.Author.Tests.{leb-true, leb-false}
 use Rattle.rules.specs.Flash.{Step, erase, run}
-use Rattle.rules.specs.Word.{Word}
-use Rattle.rules.specs.Page.{Form, word-count, size, wear-part, wear-in, cleared, bad, Page, page, state-by, state}
+use Rattle.rules.specs.Word.{Word, mark-word}
+use Rattle.rules.specs.Page.{Form, word-count, size, wear-part, wear-in, State, cleared, bad, Page, page, state-by, state}
 use Rattle.rules.specs.Store.{states, greatest, base, used, is-cleared, no-page, page-at, count, or-value, Candidate, nobody, better, offered, least-worn}
-use Rattle.rules.specs.Store.{index}
-use Rattle.rules.specs.Steps.{renew, one-more, renewed-wear, greatest-wear, renew-picked, unclean, recovery-steps, taken}
+use Rattle.rules.specs.Store.{index, Setting, journal, active-index, active-slots, free-slot, open-group}
+use Rattle.rules.specs.Steps.{renew, one-more, renewed-wear, greatest-wear, renew-picked, unclean, abandon-steps, recovery-steps, taken}
 use Rattle.rules.specs.Call.{Roomy, cut, page-count, pages, store-number, OK}
 use Rattle.rules.proofs.Truth.{by-cases}
 use Rattle.rules.proofs.Settings.{none-some}
@@ -23,9 +24,11 @@ use Rattle.rules.proofs.Phases.{Pages, store-run, store-run-append}
 use Rattle.rules.proofs.Told.{told, told-amid, page-told}
 use Rattle.rules.proofs.Pages.{cleared-is, fresh-cleared}
 use Rattle.rules.proofs.Stores.{cleared-or-not, taken-at}
-use Rattle.rules.proofs.Renewing.{fresh, renew-run}
-use Rattle.rules.proofs.Wears.{fresh-wear, beside, Erased, erased-at, is-erased}
-use Rattle.rules.proofs.Healthy.{recovery-part}
+use Rattle.rules.proofs.Renewing.{fresh, renew-run, rest-steps}
+use Rattle.rules.proofs.Wears.{fresh-wear, beside, Erased, erased-at, is-erased, past-slots}
+use Rattle.rules.proofs.Good.{Frame, Good}
+use Rattle.rules.proofs.Recovering.{picks, begun, begins-as, begun-wears, begun-elsewhere, begun-long}
+use Rattle.rules.proofs.Healthy.{accepted-frame, accepted-good, recovery-part}
 use Rattle.promise.specs.Calls.{Image}
 use Rattle.promise.specs.History.{recovery-of}
 use Rattle.promise.specs.Corollaries.{Rewears, each-wear-follows-the-rule, Greatest, PassedOver, ComesBack}
@@ -127,6 +130,15 @@ passed-over edition F p w is most two e =
 
 -- ---- the wear that a recovery gives a page
 
+-- to end a group nothing is erased
+past-abandon : (ps : List Page) (rest before : List Step) (p : ℕ) (after : List Step) → abandon-steps ps ++ rest ≡ before ++ erase p ∷ after
+    → (b : List Step) × (before ≡ abandon-steps ps ++ b) × (rest ≡ b ++ erase p ∷ after)
+unfolding abandon-steps
+past-abandon ps rest before p after e =
+    by-cases (open-group ps)
+    (λ o. rw o (past-slots (active-index (states ps)) (free-slot (active-slots ps)) (mark-word 0 ∷ []) rest before p after (rw o at e)))
+    (λ o. rw o (before, refl, rw o at e))
+
 module _ (fm : Form) (roomy : Roomy fm) (i : Image) (ok : store-number fm i ≡ OK) where
   abbrev edition : ℕ
   edition = fm .edition
@@ -135,14 +147,41 @@ module _ (fm : Form) (roomy : Roomy fm) (i : Image) (ok : store-number fm i ≡ 
   abbrev k′ : ℕ
   k′ = suc (suc (fm .slot-count))
 
-  -- the pages as words
+  -- the pages as words, and that they are a good store
   abbrev F : Pages
   F = cut (size fm) (page-count fm i) i
 
+  abbrev c : Frame
+  c = accepted-frame fm roomy ⊥ i ok
+
+  abbrev J : List Setting
+  J = journal (pages fm i)
+
+  abbrev good : Good c J F
+  good = accepted-good fm roomy ⊥ i ok (λ z. absurd z)
+
+  -- which pages are renewed, and the pages when that begins
+  abbrev picked : ℕ → State → Bool
+  picked = picks c J F good
+
+  abbrev G : Pages
+  G = begun c J F good
+
+  -- what is programmed before, to end an open group
+  abbrev abandon : List Step
+  abandon = abandon-steps (told edition F)
+
+  recovery-is : recovery-of fm i ≡ abandon ++ rest-steps edition k′ picked (greatest-wear (told edition F)) 0 G
+  unfolding pages
+  recovery-is = begins-as c J F good
+
   module _ (before : List Step) (p : ℕ) (after : List Step) (e : recovery-of fm i ≡ before ++ erase p ∷ after) where
-    erased : Erased edition k′ F before p after
-    unfolding recovery-steps renew-picked pages
-    erased = erased-at edition k′ (λ k s. unclean (base (states (pages fm i))) s) (greatest-wear (pages fm i)) [] F refl before p after e .1
+    later : (b : List Step) × (before ≡ abandon ++ b) × (rest-steps edition k′ picked (greatest-wear (told edition F)) 0 G ≡ b ++ erase p ∷ after)
+    later = past-abandon (told edition F) _ before p after (sym recovery-is ∙ e)
+
+    erased : Erased edition k′ picked G (later .0) p after
+    erased =
+        erased-at edition k′ picked (greatest-wear (told edition F)) [] G (ap one-more (sym (begun-wears c J F good))) (later .0) p after (later .2) .1
 
     -- the pages with x in its place, the others as they are by then
     abbrev with-page : List Word → Pages
@@ -157,21 +196,28 @@ module _ (fm : Form) (roomy : Roomy fm) (i : Image) (ok : store-number fm i ≡ 
         e ∙ ap (λ (ss : List Step). before ++ erase p ∷ ss) (erased .gets)
         ∙ sym (append-assoc before (renew edition p wear) (erased .behind))
 
+    run-then : store-run (word-count fm) before F ≡ with-page (erased .here)
+    run-then =
+        ap (λ (ss : List Step). store-run (word-count fm) ss F) (later .1) ∙ store-run-append (word-count fm) abandon (later .0) F ∙ erased .by-then
+
     -- the pages just before its erase, and when its wear word is whole
     pages-then : pages fm (run (size fm) before i) ≡ told edition (with-page (erased .here))
-    pages-then = recovery-part fm roomy i ok before (erase p ∷ after) e ∙ ap (told edition) (erased .by-then)
+    pages-then = recovery-part fm roomy i ok before (erase p ∷ after) e ∙ ap (told edition) run-then
 
     pages-next : pages fm (run (size fm) (before ++ renew edition p wear) i) ≡ told edition (with-page (fresh edition k′ wear))
     pages-next =
         recovery-part fm roomy i ok (before ++ renew edition p wear) (erased .behind) steps
         ∙ ap (told edition) (store-run-append (word-count fm) before (renew edition p wear) F
-        ∙ ap (store-run (word-count fm) (renew edition p wear)) (erased .by-then)
+        ∙ ap (store-run (word-count fm) (renew edition p wear)) run-then
         ∙ ap (λ (k : ℕ). store-run (word-count fm) (renew edition k wear) (with-page (erased .here))) (sym (erased .place))
         ∙ renew-run edition k′ (erased .front) (erased .here) (erased .rest) wear)
 
     own : page-at p (pages fm i) ≡ page edition (erased .here)
     unfolding pages
-    own = page-told edition F p (erased .inside) ∙ ap (page edition) (erased .as-it-was)
+    own =
+        let there = erased .as-it-was in
+        let same = begun-elsewhere c J F good p (subst (λ (x : List Word). picked p (state edition x) ≡ true) (sym there) (erased .picked)) in
+        page-told edition F p (omega (arith, erased .inside, begun-long c J F good)) ∙ ap (page edition) (sym same ∙ there)
 
     rewears : Rewears fm i before p after
     unfolding page
@@ -222,8 +268,12 @@ module _ (fm : Form) (roomy : Roomy fm) (i : Image) (ok : store-number fm i ≡ 
       let it = page-told edition F p (omega (arith, cut-length (size fm) (page-count fm i) i, inside)) in
       let none-there = sym (ap (λ (q : Page). q .wear) it) ∙ lost in
       let is-bad : page-at p ps .state ≡ bad = ap (λ (q : Page). q .state) it ∙ rw none-there in
-      is-erased edition (λ k s. unclean (base (states ps)) s) (greatest-wear ps) 0 ps p p no-page
-      (omega (arith, pages-long fm i, inside)) (omega arith) (rw is-bad)
+      let at = is-erased edition (λ k s. unclean (base (states ps)) s) (greatest-wear ps) 0 ps p p no-page
+      (omega (arith, pages-long fm i, inside)) (omega arith) (rw is-bad) in (
+        abandon-steps ps ++ at .0,
+        at .1,
+        ap (λ (ss : List Step). abandon-steps ps ++ ss) (at .2) ∙ sym (append-assoc (abandon-steps ps) (at .0) (erase p ∷ at .1)),
+      )
 
 pub wear-follows : each-wear-follows-the-rule
 wear-follows fm roomy i ok before p after e = rewears fm roomy i ok before p after e

@@ -1,13 +1,16 @@
 -- The calls as the promise sees them: which outcomes of each are possible. The rules are one such set of calls, the exported
--- functions are another. Each is of one form of pages.
+-- functions are another. Each is of one chip.
 use Prim.Native.Nat.{ℕ, _≤_}
 use mathlib.Core.Path.{_≡_}
-use mathlib.Core.Bool.{cond}
-use mathlib.Core.List.{List}
+use mathlib.Core.Bool.{true, cond}
+use mathlib.Core.List.{List, [], _∷_}
 use mathlib.Core.Option.{Option, none, some}
 use lib.Dec.{eqb}
-use Rattle.rules.specs.Page.{Form}
+use Rattle.rules.specs.Page.{Form, Chip, in-edition}
+use Rattle.rules.specs.Store.{Setting, setting}
+use Rattle.rules.specs.Steps.{Change}
 use Rattle.rules.specs.Call.{OK, Formatted, Stepped, Reading, Pairing, accepted, format, recover, write, read, blank-read, code, pairing, lookup}
+use Rattle.rules.specs.Call.{has-edition, form-of}
 
 abbrev pub Image : Type 0
 Image = List ℕ
@@ -46,11 +49,26 @@ with-value a v before (value-at x) = cond (eqb x a) (finds v) (before (value-at 
 with-value a v before (blank-value-at x) = cond (eqb x a) (finds v) (before (blank-value-at x))
 with-value a v before pairing-code = pairing (code (λ x. cond (eqb x a) (some v) (found-value (before (value-at x)))))
 
--- Which outcome of a call is possible, by the image at the call.
+-- the answers with all of these settings in them
+unfoldable pub with-values : List Setting → EachAnswer → EachAnswer
+with-values [] before = before
+with-values (setting a v ∷ rs) before = with-values rs (with-value a v before)
+
+-- of each of these settings
+unfoldable pub EachOf : (address-and-value : ℕ → ℕ → Type 0) → List Setting → Type 0
+EachOf P [] = Unit {0}
+EachOf P (setting a v ∷ rs) = P a v × EachOf P rs
+
+-- a question that asks for no address of these settings
+abbrev pub AsksNone : Question → List Setting → Type 0
+AsksNone q rs = EachOf (λ a v. Asks q a → ⊥) rs
+
+-- Which outcome of a call is possible, by the image at the call. Format is told an edition; a write is one of a single setting or one
+-- of a group.
 pub record Calls : Type 1 where
-  pub Formats : Image → Formatted → Type 0
+  pub Formats : (edition : ℕ) → Image → Formatted → Type 0
   pub Recovers : (allowance : ℕ) → Image → Stepped → Type 0
-  pub Writes : (address value allowance : ℕ) → Image → Stepped → Type 0
+  pub Writes : (change : Change) (allowance : ℕ) → Image → Stepped → Type 0
   pub Answers : (q : Question) → Image → Answer q → Type 0
 
 -- what the rules answer
@@ -59,18 +77,19 @@ answer fm (value-at x) i = read fm x i
 answer fm (blank-value-at x) i = blank-read fm x i
 answer fm pairing-code i = lookup fm i
 
-abbrev pub by-the-rules : Form → Calls
-by-the-rules fm =
+-- An image is read by the edition that it has; format can be told those that the chip has.
+abbrev pub by-the-rules : Chip → Calls
+by-the-rules chip =
     record {
-      Formats = λ i f. f ≡ format fm i;
-      Recovers = λ n i s. s ≡ recover fm n i;
-      Writes = λ a v n i s. s ≡ write fm a v n i;
-      Answers = λ q i r. r ≡ answer fm q i;
+      Formats = λ e i f. (has-edition chip e ≡ true) × (f ≡ format (in-edition chip e) i);
+      Recovers = λ n i s. s ≡ recover (form-of chip i) n i;
+      Writes = λ c n i s. s ≡ write (form-of chip i) c n i;
+      Answers = λ q i r. r ≡ answer (form-of chip i) q i;
     }
 
 -- calls that do only what the rules say
-pub record Obeys (fm : Form) (C : Calls) : Type 0 where
-  pub formats : (i : Image) (f : Formatted) → C .Formats i f → f ≡ format fm i
-  pub recovers : (n : ℕ) (i : Image) (s : Stepped) → C .Recovers n i s → s ≡ recover fm n i
-  pub writes : (a v n : ℕ) (i : Image) (s : Stepped) → C .Writes a v n i s → s ≡ write fm a v n i
-  pub answers : (q : Question) (i : Image) (r : Answer q) → C .Answers q i r → r ≡ answer fm q i
+pub record Obeys (chip : Chip) (C : Calls) : Type 0 where
+  pub formats : (e : ℕ) (i : Image) (f : Formatted) → C .Formats e i f → (has-edition chip e ≡ true) × (f ≡ format (in-edition chip e) i)
+  pub recovers : (n : ℕ) (i : Image) (s : Stepped) → C .Recovers n i s → s ≡ recover (form-of chip i) n i
+  pub writes : (c : Change) (n : ℕ) (i : Image) (s : Stepped) → C .Writes c n i s → s ≡ write (form-of chip i) c n i
+  pub answers : (q : Question) (i : Image) (r : Answer q) → C .Answers q i r → r ≡ answer (form-of chip i) q i

@@ -3,56 +3,95 @@ use Prim.Native.Nat.{ℕ, _+_, _-_, _*_, _/_, _%_, _≤_, _<_}
 use mathlib.Core.Path.{_≡_}
 use mathlib.Core.Logic.{_⊎_}
 use mathlib.Core.Bool.{Bool, true, false}
-use mathlib.Core.List.{List, [], _∷_, _++_}
+use mathlib.Core.List.{List, [], _∷_, _++_, map}
 use mathlib.Core.Option.{none, some}
 use lib.ListN.{length, replicate}
 use Rattle.rules.specs.Flash.{Step, program, erase, AllAllowed, Rises, bytes-at, run}
-use Rattle.rules.specs.Word.{word, check, Sound, HalfWritten, Spoiled, word-steps, wear-word, record-word, slot-condition}
-use Rattle.rules.specs.Page.{Form, size, Page, wear-place}
-use Rattle.rules.specs.Store.{states, base, used, is-cleared, page-at, count, used-orders, held}
-use Rattle.rules.specs.Steps.{renew, renewed-wear, greatest-wear, format-steps, Way, stay, append-to, open-at, move-to, taken, way}
-use Rattle.rules.specs.Call.{this-form, Roomy, held-limit, page-count, pages, wrong-size, store-number, repeats, all-used, write-number, OK}
+use Rattle.rules.specs.Word.{Word, word, check, HalfWritten, Spoiled, Slot, recorded, opens, closes, neither, slot, has-groups, word-steps, wear-word}
+use Rattle.rules.specs.Word.{record-word}
+use Rattle.rules.specs.Page.{Form, size, Chip, in-edition, Page, wear-place}
+use Rattle.rules.specs.Store.{states, base, used, is-cleared, page-at, count, used-orders, held, each, last-of, Setting, setting, records, open-group}
+use Rattle.rules.specs.Steps.{renew, renewed-wear, greatest-wear, renew-picked, unclean, format-steps, Change, single, group, settings-of, Way, stay}
+use Rattle.rules.specs.Steps.{append-to, open-at, move-to, taken, way}
+use Rattle.rules.specs.Call.{this-chip, Roomy, RoomyChip, form-of, held-limit, page-count, pages, wrong-size, store-number, repeats, all-used}
+use Rattle.rules.specs.Call.{write-number, OK, NOT-HELD, Reading, read, code, lookup, format}
 use Rattle.rules.specs.Listing.{half, spoiled}
-use Rattle.rules.specs.Call.{NOT-HELD, Reading, read, lookup, format}
 use Rattle.promise.specs.Calls.{Image, pairing-code, finds, by-the-rules}
 use Rattle.promise.specs.History.{recovery-of, write-of, InUse, Interrupted}
 use Rattle.promise.specs.Promise.{Same, Changed}
 
--- Each is of any form of pages, if a page has more slots than addresses may be held.
+-- Each is of any chip or any form of pages, if a page has more slots than addresses may be held.
 
 -- a store in use, by the rules
-abbrev pub Used : Form → Image → Type 0
-Used fm = InUse fm (by-the-rules fm)
+abbrev pub Used : Chip → Image → Type 0
+Used chip = InUse chip (by-the-rules chip)
+
+-- the pages of an image, read by its edition
+abbrev pub pages-of : Chip → Image → List Page
+pages-of chip i = pages (form-of chip i) i
 
 -- "Does a handset forget its pairing code if the battery contact opens while a digit of it is being set?" No: the whole answer of
--- the lookup is as before, or it is as before with the one new digit. The address a may be any: a write elsewhere leaves the code.
+-- the lookup is as before, or it is as before with the new digits. The addresses may be any: a write elsewhere leaves the code.
 abbrev pub the-code-survives : Type 0
-the-code-survives = (fm : Form) → Roomy fm → (i : Image) → Used fm i → (a v n : ℕ) (k : Image) → Interrupted fm (by-the-rules fm) a v i n k
-    → Same fm (by-the-rules fm) pairing-code i k ⊎ Changed fm (by-the-rules fm) a v pairing-code i k
+the-code-survives = (chip : Chip) → RoomyChip chip → (i : Image) → Used chip i → (c : Change) (n : ℕ) (k : Image)
+    → Interrupted chip (by-the-rules chip) c i n k
+    → Same chip (by-the-rules chip) pairing-code i k ⊎ Changed chip (by-the-rules chip) (settings-of c) pairing-code i k
+
+-- "Can a potter see half of a new code?" No: after a cut write of a group that has all four digits, in whatever order and whatever else
+-- it has, the lookup gives the old code or the new one.
+abbrev pub never-half-a-code : Type 0
+never-half-a-code = (chip : Chip) → RoomyChip chip → (i : Image) → Used chip i → (rs : List Setting) (d₀ d₁ d₂ d₃ : ℕ)
+    → code (λ a. last-of a rs) ≡ some d₀ ∷ some d₁ ∷ some d₂ ∷ some d₃ ∷ []
+    → (n : ℕ) (k : Image) → Interrupted chip (by-the-rules chip) (group rs) i n k
+    → (lookup (form-of chip k) k ≡ lookup (form-of chip i) i)
+    ⊎ (lookup (form-of chip k) k ≡ record { number = OK; paired = true; digits = d₀ ∷ d₁ ∷ d₂ ∷ d₃ ∷ [] })
 
 -- "Can a paired handset come unpaired?" No: whatever it writes, and wherever power fails in that, it is paired still.
 abbrev pub a-paired-handset-stays-paired : Type 0
-a-paired-handset-stays-paired = (fm : Form) → Roomy fm → (i : Image) → Used fm i → lookup fm i .paired ≡ true
-    → (a v n : ℕ) (k : Image) → Interrupted fm (by-the-rules fm) a v i n k → lookup fm k .paired ≡ true
+a-paired-handset-stays-paired = (chip : Chip) → RoomyChip chip → (i : Image) → Used chip i → lookup (form-of chip i) i .paired ≡ true
+    → (c : Change) (n : ℕ) (k : Image) → Interrupted chip (by-the-rules chip) c i n k → lookup (form-of chip k) k .paired ≡ true
+
+-- "Can a store change its edition?" Never, whatever is written and wherever power fails: it has the one that its format was told.
+abbrev pub an-edition-stays : Type 0
+an-edition-stays = (chip : Chip) → RoomyChip chip → (i : Image) → Used chip i → (c : Change) (n : ℕ) (k : Image)
+    → Interrupted chip (by-the-rules chip) c i n k → form-of chip k ≡ form-of chip i
 
 -- "Can there be two pages that both claim to be current?" No two used pages have one order.
 abbrev pub orders-differ : Type 0
-orders-differ = (fm : Form) → Roomy fm → (i : Image) → Used fm i → repeats (used-orders (base (states (pages fm i))) (states (pages fm i))) ≡ false
+orders-differ = (chip : Chip) → RoomyChip chip → (i : Image) → Used chip i
+    → repeats (used-orders (base (states (pages-of chip i))) (states (pages-of chip i))) ≡ false
 
 -- "Can it run out of pages to move to?" There is always one that is not used.
 abbrev pub a-page-is-spare : Type 0
-a-page-is-spare = (fm : Form) → Roomy fm → (i : Image) → Used fm i → all-used (states (pages fm i)) ≡ false
+a-page-is-spare = (chip : Chip) → RoomyChip chip → (i : Image) → Used chip i → all-used (states (pages-of chip i)) ≡ false
 
 -- "Can it hold more than a page takes?" At most 192 addresses are held.
 abbrev pub never-over-full : Type 0
-never-over-full = (fm : Form) → Roomy fm → (i : Image) → Used fm i → held (pages fm i) ≤ held-limit
+never-over-full = (chip : Chip) → RoomyChip chip → (i : Image) → Used chip i → held (pages-of chip i) ≤ held-limit
+
+-- "Do first-edition handsets notice anything?" No. Where the edition has no groups, the records that count are those of the sound
+-- slots with an address, one by one; no group is open, so a recovery renews the unclean pages and does nothing else, and UNCLEAN
+-- asks for nothing else.
+unfoldable pub recorded-in : Slot → List Setting
+recorded-in (recorded a v) = setting a v ∷ []
+recorded-in (opens n) = []
+recorded-in (closes n) = []
+recorded-in (neither c) = []
+
+pub record AsItWas (fm : Form) (i : Image) : Type 0 where
+  pub records-one-by-one : (ws : List Word) → records (fm .edition) ws ≡ each recorded-in (map (slot (fm .edition)) ws)
+  pub none-open : open-group (pages fm i) ≡ false
+  pub renews-only : recovery-of fm i ≡ renew-picked (fm .edition) (λ k s. unclean (base (states (pages fm i))) s) (pages fm i)
+
+abbrev pub the-first-edition-is-as-it-was : Type 0
+the-first-edition-is-as-it-was = (fm : Form) → has-groups (fm .edition) ≡ false → (i : Image) → AsItWas fm i
 
 -- "Is a half-word ever programmed that is not blank?" Never, whatever the image: each step of a format, of a recovery and of an
 -- accepted write may be done when its turn comes.
 pub record MayBeDone (fm : Form) (i : Image) : Type 0 where
   pub format-steps-may : wrong-size fm i ≡ false → AllAllowed (size fm) (format-steps (fm .edition) (page-count fm i)) i
   pub recovery-steps-may : store-number fm i ≡ OK → AllAllowed (size fm) (recovery-of fm i) i
-  pub write-steps-may : (a v : ℕ) → write-number fm a v i ≡ OK → AllAllowed (size fm) (write-of fm a v i) i
+  pub write-steps-may : (c : Change) → write-number fm c i ≡ OK → AllAllowed (size fm) (write-of fm c i) i
 
 abbrev pub every-step-may-be-done : Type 0
 every-step-may-be-done = (fm : Form) → Roomy fm → (i : Image) → MayBeDone fm i
@@ -72,11 +111,11 @@ moves (open-at p o) = false
 moves (move-to p o) = true
 
 abbrev pub a-move-wears-all-but-one : Type 0
-a-move-wears-all-but-one = (fm : Form) (i : Image) (a v : ℕ) → write-number fm a v i ≡ OK → moves (way a v (pages fm i)) ≡ true
-    → erases (write-of fm a v i) + 1 ≡ page-count fm i
+a-move-wears-all-but-one = (fm : Form) (i : Image) (c : Change) → write-number fm c i ≡ OK → moves (way c (pages fm i)) ≡ true
+    → erases (write-of fm c i) + 1 ≡ page-count fm i
 
 abbrev pub another-write-wears-none : Type 0
-another-write-wears-none = (fm : Form) (i : Image) (a v : ℕ) → moves (way a v (pages fm i)) ≡ false → erases (write-of fm a v i) ≡ 0
+another-write-wears-none = (fm : Form) (i : Image) (c : Change) → moves (way c (pages fm i)) ≡ false → erases (write-of fm c i) ≡ 0
 
 -- "Which wear does a recovery give a page?" Whatever the image, whenever it erases a page: the page is as it was at the call, and the
 -- next two steps program its wear word, with one more than its wear or, if it has none, than the greatest in the image just before the
@@ -115,15 +154,15 @@ a-lost-wear-comes-back-greatest = (fm : Form) → Roomy fm → (i : Image) → s
 
 -- "How far did a record come that power cut?" Its slot says so. If power failed before the second half was begun, the slot is
 -- half-written, whatever the first half has come to; only one of four bytes 255 is blank. If power failed in the second half, whatever
--- bits that leaves, the slot is spoiled, unless nothing of that half is there or all of it. A whole record is sound.
-pub record SaysHowFar : Type 0 where
-  pub not-begun : (low high : ℕ) → (low ≡ 255 → high ≡ 255 → ⊥) → slot-condition (word low high 255 255) ≡ HalfWritten
+-- bits that leaves, the slot is spoiled, unless nothing of that half is there or all of it. A whole record is one. So in any edition.
+pub record SaysHowFar (e : ℕ) : Type 0 where
+  pub not-begun : (low high : ℕ) → (low ≡ 255 → high ≡ 255 → ⊥) → slot e (word low high 255 255) ≡ neither HalfWritten
   pub broke-later : (a v c d : ℕ) → a < 65535 → Rises 8 v c → Rises 8 (check (a % 256) (a / 256) v) d → (c ≡ 255 → d ≡ 255 → ⊥)
-      → (record-word a v ≡ word (a % 256) (a / 256) c d → ⊥) → slot-condition (word (a % 256) (a / 256) c d) ≡ Spoiled
-  pub whole : (a v : ℕ) → a < 65535 → slot-condition (record-word a v) ≡ Sound
+      → (record-word a v ≡ word (a % 256) (a / 256) c d → ⊥) → slot e (word (a % 256) (a / 256) c d) ≡ neither Spoiled
+  pub whole : (a v : ℕ) → a < 65535 → slot e (record-word a v) ≡ recorded a v
 
 abbrev pub a-cut-record-says-how-far-it-came : Type 0
-a-cut-record-says-how-far-it-came = SaysHowFar
+a-cut-record-says-how-far-it-came = (e : ℕ) → SaysHowFar e
 
 -- "How many broken words can a listing show?" No more than the used pages have slots, whatever the image.
 abbrev pub no-slot-counts-twice : Type 0
@@ -136,15 +175,19 @@ abbrev pub longest : (pages : ℕ) → ℕ
 longest n = 388 + 3 * (n - 1)
 
 abbrev pub no-write-is-longer : Type 0
-no-write-is-longer = (fm : Form) (i : Image) (a v : ℕ) → write-number fm a v i ≡ OK → length (write-of fm a v i) ≤ longest (page-count fm i)
+no-write-is-longer = (fm : Form) (i : Image) (c : Change) → write-number fm c i ≡ OK → length (write-of fm c i) ≤ longest (page-count fm i)
+
+-- of the first edition
+abbrev pub this-form : Form
+this-form = in-edition this-chip 1
 
 pub record Longest (n : ℕ) : Type 0 where
   pub image : Image
   pub address : ℕ
   pub value : ℕ
   pub so-many : page-count this-form image ≡ n
-  pub accepted : write-number this-form address value image ≡ OK
-  pub long : length (write-of this-form address value image) ≡ longest n
+  pub accepted : write-number this-form (single address value) image ≡ OK
+  pub long : length (write-of this-form (single address value) image) ≡ longest n
 
 abbrev pub a-longest-write : Type 0
 a-longest-write = (n : ℕ) → 2 ≤ n → n ≤ 32 → Longest n
@@ -163,13 +206,13 @@ finds-nothing = record { number = NOT-HELD; value = 0 }
 
 pub record CutLeaving (record-bytes : List ℕ) (answer : Reading) : Type 0 where
   pub left : Image
-  pub cut : Interrupted this-form (by-the-rules this-form) 5 65 fresh-store 1 left
+  pub cut : Interrupted this-chip (by-the-rules this-chip) (single 5 65) fresh-store 1 left
   pub record-left : bytes-at 12 4 left ≡ record-bytes
-  pub reads : read this-form 5 left ≡ answer
+  pub reads : read (form-of this-chip left) 5 left ≡ answer
 
 pub record SuchAStore : Type 0 where
-  pub in-use : Used this-form fresh-store
-  pub accepted : write-number this-form 5 65 fresh-store ≡ OK
+  pub in-use : Used this-chip fresh-store
+  pub accepted : write-number (form-of this-chip fresh-store) (single 5 65) fresh-store ≡ OK
   pub torn : CutLeaving (0x05 ∷ 0x00 ∷ 0x43 ∷ 0x14 ∷ []) finds-nothing
   pub complete : CutLeaving (0x05 ∷ 0x00 ∷ 0x41 ∷ 0x14 ∷ []) (finds 65)
 

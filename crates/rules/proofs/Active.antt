@@ -1,25 +1,25 @@
 -- The active page and the page that is taken, in any store whose used pages have different orders. Assumes nothing.
 use Prim.Native.Nat.{ℕ, suc, _+_, _<_}
-use mathlib.Core.Path.{_≡_, sym, ap, ap₂, _∙_, subst}
+use mathlib.Core.Path.{_≡_, refl, sym, ap, ap₂, _∙_, subst}
 use mathlib.Core.Bool.{true, false}
 use mathlib.Core.List.{List, [], _∷_, _++_}
 use native.Mathlib.Omega.{arith}
-use lib.ListN.{length, length-map, replicate, length-replicate}
+use lib.ListN.{length, length-append, length-map, replicate, length-replicate}
 use lib.Seq.{getD-append-seam}
-use borrow.Author.Tests.{ltb-true}
 use Rattle.rules.specs.Word.{Word}
 use Rattle.rules.specs.Page.{blank-word, is-wear, cleared, Page, page, state, slots}
-use Rattle.rules.specs.Store.{states, base, is-cleared, used-orders, greatest, active-order, active-index, active-slots, no-page, page-at}
-use Rattle.rules.specs.Store.{is-active, index-of, used-pages, free-slot, count, index}
-use Rattle.rules.specs.Steps.{unclean, taken, has-free-slot}
+use Rattle.rules.specs.Store.{states, base, is-cleared, used-orders, greatest, active-order, active-index, active-page, active-slots}
+use Rattle.rules.specs.Store.{no-page, page-at}
+use Rattle.rules.specs.Store.{is-active, index-of, used, order, used-pages, oldest-first, free-slot, count, index}
+use Rattle.rules.specs.Steps.{unclean, taken}
 use Rattle.rules.specs.Call.{among, repeats}
 use Rattle.rules.proofs.Cut.{AllLength}
 use Rattle.rules.proofs.Phases.{Pages}
-use Rattle.rules.proofs.Told.{told, Parted, parted, Headed, headed, length-amid}
+use Rattle.rules.proofs.Told.{told, told-amid, Parted, parted, Headed, headed, length-amid}
 use Rattle.rules.proofs.Pages.{cleared-is}
 use Rattle.rules.proofs.Slots.{FreeAt, free-at}
 use Rattle.rules.proofs.Stores.{length-states, orders, orders-used, greatest-among, greatest-upto, Under, upto-under, ActiveAt, active-at}
-use Rattle.rules.proofs.Stores.{taken-at, count-all, count-used}
+use Rattle.rules.proofs.Stores.{taken-at, count-all, count-used, Below, used-amid, greatest-last}
 
 -- A store whose used pages, of which there are some, have different orders: by its base order and those orders.
 pub record Ordered (edition k b : ℕ) (os : List ℕ) (F : Pages) : Type 0 where
@@ -58,25 +58,84 @@ module _ (edition k b : ℕ) (os : List ℕ) (F : Pages) (g : Ordered edition k 
       ap₂ (λ (x y : ℕ). index-of (is-active x y) (states (told edition F))) (g .is-base) active-is ∙ active .place
       ∙ sym (ap length (at-active .front-told)) ∙ length-map (at-active .front) (page edition)
 
+  pub page-active : active-page (told edition F) ≡ page edition (at-active .here)
+  unfolding active-page
+  page-active =
+      ap (λ (x : ℕ). page-at x (told edition F)) (active-place ∙ sym (length-map (at-active .front) (page edition)) ∙ ap length (at-active .front-told))
+      ∙ ap (page-at (length (active .front))) (active .form)
+      ∙ getD-append-seam (active .front) (active .page) (active .rest) no-page ∙ sym (at-active .here-told)
+
   pub slots-active : active-slots (told edition F) ≡ slots (at-active .here)
   unfolding active-slots page
-  slots-active =
-      ap (λ (x : ℕ). page-at x (told edition F) .slots) (active-place ∙ sym (length-map (at-active .front) (page edition)) ∙ ap length (at-active .front-told))
-      ∙ ap (λ (ps : List Page). page-at (length (active .front)) ps .slots) (active .form)
-      ∙ ap (λ (p : Page). p .slots) (getD-append-seam (active .front) (active .page) (active .rest) no-page ∙ sym (at-active .here-told))
+  slots-active = ap (λ (p : Page). p .slots) page-active
+
+-- the active page is the last used one, the oldest first
+unfoldable last-page : List Page → Page
+last-page [] = no-page
+last-page (p ∷ []) = p
+last-page (p ∷ q ∷ ps) = last-page (q ∷ ps)
+
+last-snoc : (ps : List Page) (p : Page) → last-page (ps ++ p ∷ []) ≡ p
+unfolding last-page
+last-snoc [] p = refl
+last-snoc (x ∷ []) p = refl
+last-snoc (x ∷ y ∷ ps) p = last-snoc (y ∷ ps) p
+
+newest-last : (b : ℕ) (f : List Page) (p : Page) (r : List Page) → used b (p .state) ≡ true → Below (order (p .state)) (used-pages b f)
+    → Below (order (p .state)) (used-pages b r) → last-page (oldest-first (used-pages b (f ++ p ∷ r))) ≡ p
+newest-last b f p r u h t =
+    ap (λ (ps : List Page). last-page (oldest-first ps)) (used-amid b f p r u) ∙ ap last-page (greatest-last p (used-pages b f) (used-pages b r) h t)
+    ∙ last-snoc (oldest-first (used-pages b f ++ used-pages b r)) p
+
+active-last : (edition k b : ℕ) (os : List ℕ) (F : Pages) → Ordered edition k b os F
+    → active-page (told edition F) ≡ last-page (oldest-first (used-pages b (told edition F)))
+active-last edition k b os F g =
+    let a = active edition k b os F g in
+    let o = sym (a .is-order) in
+    page-active edition k b os F g ∙ at-active edition k b os F g .here-told
+    ∙ sym (ap (λ (ps : List Page). last-page (oldest-first (used-pages b ps))) (a .form)
+    ∙ newest-last b (a .front) (a .page) (a .rest) (a .is-used) (rw o at (a .before)) (rw o at (a .behind)))
+
+-- so two stores with the same used pages have the same active page, and one that is newer than all others is it
+pub same-active : (edition k b : ℕ) (os : List ℕ) (F G : Pages) → Ordered edition k b os F → Ordered edition k b os G
+    → used-pages b (told edition G) ≡ used-pages b (told edition F) → active-page (told edition G) ≡ active-page (told edition F)
+same-active edition k b os F G g h e =
+    active-last edition k b os G h ∙ ap (λ (ps : List Page). last-page (oldest-first ps)) e ∙ sym (active-last edition k b os F g)
+
+pub newest-active : (edition k b : ℕ) (os : List ℕ) (f : Pages) (pg : List Word) (r : Pages) → Ordered edition k b os (f ++ pg ∷ r)
+    → used b (state edition pg) ≡ true → Below (order (state edition pg)) (used-pages b (told edition f))
+    → Below (order (state edition pg)) (used-pages b (told edition r)) → active-page (told edition (f ++ pg ∷ r)) ≡ page edition pg
+unfolding page
+newest-active edition k b os f pg r g u before behind =
+    active-last edition k b os (f ++ pg ∷ r) g
+    ∙ ap (λ (ps : List Page). last-page (oldest-first (used-pages b ps))) (told-amid edition f pg r)
+    ∙ newest-last b (told edition f) (page edition pg) (told edition r) u before behind
 
 module _ (edition m b : ℕ) (os : List ℕ) (F : Pages) (g : Ordered edition (suc (suc (suc m))) b os F) where
-  -- the free slot of the active page
-  pub active-free : has-free-slot (told edition F) ≡ true
-      → (hd : Headed m (at-active edition (suc (suc (suc m))) b os F g .here)) × FreeAt (hd .ws)
-      × (free-slot (active-slots (told edition F)) ≡ free-slot (hd .ws))
-  unfolding has-free-slot slots
-  active-free free =
-      let at = at-active edition (suc (suc (suc m))) b os F g in
-      let hd = headed m (at .here) (length-amid (suc (suc (suc m))) (at .front) (at .here) (at .rest)
-      (subst (AllLength (suc (suc (suc m)))) (at .form) (g .long))) in
-      let sl : active-slots (told edition F) ≡ hd .ws = slots-active edition (suc (suc (suc m))) b os F g ∙ ap slots (hd .form) in
-      (hd, free-at (hd .ws) (ltb-true (free-slot (hd .ws)) (length (hd .ws)) (rw sl at free)), ap free-slot sl)
+  abbrev k : ℕ
+  k = suc (suc (suc m))
+
+  -- the header of the active page, and its slots: those before the free one, and the blank ones behind them
+  pub record Slotted : Type 0 where
+    pub header : Headed m (at-active edition k b os F g .here)
+    pub free : FreeAt (header .ws)
+    pub place : free-slot (active-slots (told edition F)) ≡ length (free .front)
+    pub many : length (active-slots (told edition F)) ≡ length (free .front) + free .rest
+
+  pub active-slotted : Slotted
+  unfolding slots
+  active-slotted =
+      let at = at-active edition k b os F g in
+      let hd = headed m (at .here) (length-amid k (at .front) (at .here) (at .rest) (subst (AllLength k) (at .form) (g .long))) in
+      let sl : active-slots (told edition F) ≡ hd .ws = slots-active edition k b os F g ∙ ap slots (hd .form) in
+      let t = free-at (hd .ws) in
+      record {
+        header = hd;
+        free = t;
+        place = ap free-slot sl ∙ sym (t .place);
+        many = ap length (sl ∙ t .form) ∙ length-append (t .front) (replicate (t .rest) blank-word)
+            ∙ ap (λ (n : ℕ). length (t .front) + n) (length-replicate (t .rest) blank-word);
+      }
 
 -- ---- the page that is taken
 

@@ -10,13 +10,14 @@ use lib.Dec.{leb}
 use borrow.Author.Tests.{le-leb, lt-leb, ne-eqb}
 use Rattle.rules.specs.Flash.{Step, run}
 use Rattle.rules.specs.Page.{Form, size}
-use Rattle.rules.specs.Store.{states, value, or-value}
-use Rattle.rules.specs.Steps.{format-steps, is-value}
+use Rattle.rules.specs.Store.{value, or-value}
+use Rattle.rules.specs.Steps.{format-steps, Change, settings-of, words-of, all-values}
 use Rattle.rules.proofs.Rows.{numbers, not-given, then, blank-read-goes-on, read-goes-on, write-goes-on}
 use Rattle.rules.specs.Call.{first-of, page-count, pages, wrong-size, store-number, write-only-rows, write-number, blank-read-number, read-number}
-use Rattle.rules.specs.Call.{store-rows, blank-read-rows, among, is-unclean, wrong-address, is-held, no-room, order-end, accepted}
+use Rattle.rules.specs.Call.{store-rows, blank-read-rows, among, is-unclean, wrong-group, wrong-address, a-wrong-address, is-held, no-room}
+use Rattle.rules.specs.Call.{order-end, accepted}
 use Rattle.rules.specs.Call.{format, stepped, reading, read, blank-value, blank-read, code, pairing, lookup}
-use Rattle.rules.specs.Call.{OK, SIZE, ADDRESS, NOT-HELD, UNCLEAN, NO-ROOM, ORDER-END}
+use Rattle.rules.specs.Call.{OK, SIZE, ADDRESS, NOT-HELD, UNCLEAN, NO-ROOM, ORDER-END, GROUP}
 
 -- ---- numbers
 
@@ -132,37 +133,43 @@ module _ (fm : Form) (number n : ℕ) (ss : List Step) (i : List ℕ) where
   stepped-done e = rw e
 
 -- the number of a write, test by test
-module _ (fm : Form) (a v : ℕ) (i : List ℕ) where
-  pub write-store : (store-number fm i ≡ 0 → ⊥) → write-number fm a v i ≡ store-number fm i
-  write-store h = write-goes-on fm i a v ∙ then-refused (store-number fm i) _ h
+module _ (fm : Form) (c : Change) (i : List ℕ) where
+  pub write-store : (store-number fm i ≡ 0 → ⊥) → write-number fm c i ≡ store-number fm i
+  write-store h = write-goes-on fm i c ∙ then-refused (store-number fm i) _ h
 
   module _ (ok : store-number fm i ≡ 0) where
-    behind : write-number fm a v i ≡ first-of (write-only-rows a v (pages fm i))
-    behind = write-goes-on fm i a v ∙ then-ok (store-number fm i) _ ok
+    further : write-number fm c i ≡ first-of (write-only-rows (fm .edition) c (pages fm i))
+    further = write-goes-on fm i c ∙ then-ok (store-number fm i) _ ok
 
-    pub write-unclean : is-unclean (states (pages fm i)) ≡ true → write-number fm a v i ≡ UNCLEAN
+    pub write-unclean : is-unclean (pages fm i) ≡ true → write-number fm c i ≡ UNCLEAN
     unfolding first-of
-    write-unclean u = behind ∙ rw u
+    write-unclean u = further ∙ rw u
 
-    module _ (clean : is-unclean (states (pages fm i)) ≡ false) where
-      pub write-last : a ≡ 65535 → write-number fm a v i ≡ ADDRESS
+    module _ (clean : is-unclean (pages fm i) ≡ false) where
+      pub write-group : wrong-group (fm .edition) c ≡ true → write-number fm c i ≡ GROUP
       unfolding first-of
-      write-last e = behind ∙ rw (clean, last-address a e)
+      write-group g = further ∙ rw (clean, g)
 
-      module _ (far : a < 65535) where
-        pub write-same : is-value (value a (pages fm i)) v ≡ true → write-number fm a v i ≡ OK
+      module _ (grouped : wrong-group (fm .edition) c ≡ false) where
+        pub write-last : a-wrong-address (settings-of c) ≡ true → write-number fm c i ≡ ADDRESS
         unfolding first-of
-        write-same e = behind ∙ rw (clean, other-address a far, e)
+        write-last e = further ∙ rw (clean, grouped, e)
 
-        module _ (new : is-value (value a (pages fm i)) v ≡ false) where
-          pub write-full : no-room a (pages fm i) ≡ true → write-number fm a v i ≡ NO-ROOM
+        module _ (far : a-wrong-address (settings-of c) ≡ false) where
+          pub write-same : all-values (settings-of c) (pages fm i) ≡ true → write-number fm c i ≡ OK
           unfolding first-of
-          write-full e = behind ∙ rw (clean, other-address a far, new, e)
+          write-same e = further ∙ rw (clean, grouped, far, e)
 
-          pub write-end : no-room a (pages fm i) ≡ false → order-end (pages fm i) ≡ true → write-number fm a v i ≡ ORDER-END
-          unfolding first-of
-          write-end e f = behind ∙ rw (clean, other-address a far, new, e, f)
+          module _ (new : all-values (settings-of c) (pages fm i) ≡ false) where
+            pub write-full : no-room (settings-of c) (pages fm i) ≡ true → write-number fm c i ≡ NO-ROOM
+            unfolding first-of
+            write-full e = further ∙ rw (clean, grouped, far, new, e)
 
-          pub write-ok : no-room a (pages fm i) ≡ false → order-end (pages fm i) ≡ false → write-number fm a v i ≡ OK
-          unfolding first-of
-          write-ok e f = behind ∙ rw (clean, other-address a far, new, e, f)
+            module _ (room : no-room (settings-of c) (pages fm i) ≡ false) where
+              pub write-end : order-end (length (words-of c)) (pages fm i) ≡ true → write-number fm c i ≡ ORDER-END
+              unfolding first-of
+              write-end e = further ∙ rw (clean, grouped, far, new, room, e)
+
+              pub write-ok : order-end (length (words-of c)) (pages fm i) ≡ false → write-number fm c i ≡ OK
+              unfolding first-of
+              write-ok e = further ∙ rw (clean, grouped, far, new, room, e)

@@ -5,12 +5,12 @@ use mathlib.Core.List.{List, [], _∷_, append-nil}
 use native.Mathlib.Omega.{arith}
 use lib.ListN.{replicate, length-replicate}
 use Rattle.rules.specs.Word.{Word, wear-word, opening-word}
-use Rattle.rules.specs.Page.{blank-word, open₁, cleared, Page, page, state, slots}
+use Rattle.rules.specs.Page.{blank-word, wear-part, open₁, cleared, Page, page, state, slots}
 use Rattle.rules.specs.Store.{states, base, greatest, order, order₂, used, used-pages, add-page, oldest-first, insert, each, put-all}
 use Rattle.rules.specs.Store.{records, all-records}
 use Rattle.rules.specs.Call.{among, repeats}
-use Rattle.rules.proofs.Words.{wear-sound, opening-sound, sound-light}
-use Rattle.rules.proofs.Pages.{AllLight, replicate-light, replicate-all-blank, fresh-cleared, wear-is-wear, opened-plain}
+use Rattle.rules.proofs.Words.{wear-sound, wear-edition, opening-sound, sound-light}
+use Rattle.rules.proofs.Pages.{AllLight, replicate-light, fresh-cleared, wear-is-wear, opened-plain}
 use Rattle.rules.proofs.Slots.{blank-records}
 use Rattle.rules.proofs.Stores.{orders, NoneUsed, none-used-pages}
 use Rattle.rules.proofs.Phases.{Pages}
@@ -33,12 +33,13 @@ module _ (c : Frame) where
   clear-state = fresh-cleared e 1 (suc (suc (slots-in c)))
 
   clear-whole : (n : ℕ) → AllWhole c (clear-pages n)
-  unfolding AllWhole AllLight
+  unfolding AllWhole AllLight wear-part
   clear-whole zero = tt
   clear-whole (suc n) = (
     (
       ap suc (length-replicate (suc (suc (slots-in c))) blank-word),
       λ may. (sound-light (wear-word e 1) (wear-sound e 1), replicate-light (suc (suc (slots-in c)))),
+      λ one s. wear-edition e 1,
     ),
     clear-whole n,
   )
@@ -54,7 +55,8 @@ module _ (c : Frame) where
   clear-unused (suc n) = (rw clear-state, clear-unused n)
 
   pub format-good : (n : ℕ) → suc n ≡ c .pages → Good c [] (formatted e (slots-in c) n)
-  unfolding AllWhole AllLight page base greatest states order order₂ used used-pages add-page orders oldest-first insert each slots repeats among put-all
+  unfolding AllWhole AllLight wear-part page base greatest states order order₂ used used-pages add-page orders oldest-first insert each
+      slots repeats among put-all
   format-good n is =
       let two = c .two in
       let m = slots-in c in
@@ -72,13 +74,14 @@ module _ (c : Frame) where
             (
               ap (λ (x : ℕ). suc (suc (suc x))) (length-replicate m blank-word),
               λ may. (sound-light (wear-word e 1) (wear-sound e 1), (sound-light (opening-word 1 0) (opening-sound 1 0), replicate-light (suc m))),
+              λ one s. wear-edition e 1,
             ),
             clear-whole n,
           );
           count = ap suc (length-replicate n clear-page) ∙ is;
           is-base = rw (st, clear-base n);
           has-orders = ap orders only ∙ rw st;
-          has-journal = ap (λ (ps : List Page). all-records (oldest-first ps)) only ∙ append-nil (records (replicate m blank-word))
-              ∙ blank-records (replicate m blank-word) (replicate-all-blank m);
+          has-journal = ap (λ (ps : List Page). all-records (oldest-first ps)) only ∙ append-nil (records e (replicate m blank-word))
+              ∙ blank-records e m;
         };
       }

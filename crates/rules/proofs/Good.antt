@@ -1,19 +1,18 @@
 -- A good store: the invariant behind the promise, and that it outlasts whatever befalls a page that is not used. Assumes nothing.
-use Prim.Native.Nat.{ℕ, _≤_, _<_}
+use Prim.Native.Nat.{ℕ, suc, _≤_, _<_}
 use mathlib.Core.Path.{_≡_, sym, ap, _∙_, subst}
-use mathlib.Core.Bool.{false, cond}
+use mathlib.Core.Bool.{false}
 use mathlib.Core.List.{List, [], _∷_, _++_}
-use mathlib.Core.Option.{Option, some}
+use mathlib.Core.Option.{Option}
 use lib.ListN.{length, length-append}
-use lib.Dec.{eqb}
 use Rattle.rules.specs.Flash.{Step}
 use Rattle.rules.specs.Word.{Word}
-use Rattle.rules.specs.Page.{Form, word-count, Page, page, state}
-use Rattle.rules.specs.Store.{states, base, used, used-pages, oldest-first, journal, Setting, last-of, put-all, all-records}
+use Rattle.rules.specs.Page.{Form, word-count, wear-part, Page, page, state}
+use Rattle.rules.specs.Store.{states, base, used, used-pages, oldest-first, journal, Setting, or-else, last-of, put-all, all-records}
 use Rattle.rules.specs.Steps.{next-order}
 use Rattle.rules.specs.Call.{repeats}
 use Rattle.rules.proofs.Words.{Light}
-use Rattle.rules.proofs.Pages.{AllLight, Fades}
+use Rattle.rules.proofs.Pages.{AllLight, Fades, OfEdition, AllOfEdition}
 use Rattle.rules.proofs.Slots.{Lawful, all-records-lawful}
 use Rattle.rules.proofs.Stores.{orders, Under, fade-base, fade-pages}
 use Rattle.rules.proofs.Phases.{Pages, Through, Turns}
@@ -22,14 +21,15 @@ use Rattle.rules.proofs.Told.{told, told-amid}
 use Rattle.rules.proofs.Active.{Ordered, next-under}
 
 -- What stays the same all through: the form of the pages, their number, how many addresses may be held,
--- and whether power may fail. A page takes all that may be held.
+-- whether power may fail, and whether no page is of another edition. A page takes all that may be held, and any group.
 pub record Frame : Type 1 where
   pub form : Form
   pub pages : ℕ
   pub limit : ℕ
   pub May : Type 0
+  pub One : Type 0
   pub two : 2 ≤ pages
-  pub some : 0 < form .slot-count
+  pub ten : 10 ≤ form .slot-count
   pub fits : limit ≤ form .slot-count
 
 -- the slots of a page, and its words
@@ -46,9 +46,9 @@ Throughout c = Through (words-in c) (c .May)
 abbrev pub Turning : (c : Frame) → (old new : Pages → Type 0) → List Step → Pages → Type 0
 Turning c = Turns (words-in c) (c .May)
 
--- a page of that many words, all light if power may fail
+-- a page of that many words, all light if power may fail, and its wear word of no other edition, where that is so of all pages
 abbrev pub Whole : Frame → List Word → Type 0
-Whole c pg = (length pg ≡ words-in c) × (c .May → AllLight pg)
+Whole c pg = (length pg ≡ words-in c) × (c .May → AllLight pg) × (c .One → OfEdition (c .form .edition) pg)
 
 unfoldable pub AllWhole : Frame → Pages → Type 0
 AllWhole c [] = Unit {0}
@@ -79,9 +79,9 @@ pub record Has (c : Frame) (t : ℕ → Option ℕ) (F : Pages) : Type 0 where
   pub good : Good c journal F
   pub values : (x : ℕ) → last-of x journal ≡ t x
 
--- the values with v at a
-abbrev pub changed : (a v : ℕ) → (ℕ → Option ℕ) → ℕ → Option ℕ
-changed a v t x = cond (eqb x a) (some v) (t x)
+-- the values with those settings in them
+abbrev pub changed : List Setting → (ℕ → Option ℕ) → ℕ → Option ℕ
+changed rs t x = or-else (last-of x rs) (t x)
 
 -- ---- one page among others, one word among others
 
@@ -101,15 +101,25 @@ module _ (c : Frame) where
   whole-long [] h = tt
   whole-long (pg ∷ F) h = (h .0 .0, whole-long F (h .1))
 
-  -- where power is steady, nothing is asked of the words
-  pub long-whole : (c .May → ⊥) → (F : Pages) → AllLength (words-in c) F → AllWhole c F
-  unfolding AllWhole AllLength
-  long-whole steady [] h = tt
-  long-whole steady (pg ∷ F) h = ((h .0, λ may. absurd (steady may)), long-whole steady F (h .1))
+  -- where power is steady, no word need be light
+  pub long-whole : (c .May → ⊥) → (F : Pages) → (c .One → AllOfEdition (c .form .edition) F) → AllLength (words-in c) F → AllWhole c F
+  unfolding AllWhole AllLength AllOfEdition
+  long-whole steady [] one h = tt
+  long-whole steady (pg ∷ F) one h = ((h .0, λ may. absurd (steady may), λ o. one o .0), long-whole steady F (λ o. one o .1) (h .1))
 
-  pub whole-word : (xs : List Word) (u v : Word) (ys : List Word) → Whole c (xs ++ u ∷ ys) → Light v → Whole c (xs ++ v ∷ ys)
-  unfolding AllLight
-  whole-word xs u v ys w l = (length-append xs (v ∷ ys) ∙ sym (length-append xs (u ∷ ys)) ∙ w .0, λ may. light-amid xs (w .1 may))
+  pub whole-editions : c .One → (F : Pages) → AllWhole c F → AllOfEdition (c .form .edition) F
+  unfolding AllWhole AllOfEdition
+  whole-editions one [] h = tt
+  whole-editions one (pg ∷ F) h = (h .0 .2 one, whole-editions one F (h .1))
+
+  -- a word behind the first takes the place of another
+  pub whole-word : (x : Word) (xs : List Word) (u v : Word) (ys : List Word) → Whole c (x ∷ (xs ++ u ∷ ys)) → Light v → Whole c (x ∷ (xs ++ v ∷ ys))
+  unfolding AllLight wear-part
+  whole-word x xs u v ys w l = (
+    ap suc (length-append xs (v ∷ ys) ∙ sym (length-append xs (u ∷ ys))) ∙ w .0,
+    λ may. (w .1 may .0, light-amid xs (w .1 may .1)),
+    w .2,
+  )
     where
       light-amid : (xs : List Word) → AllLight (xs ++ u ∷ ys) → AllLight (xs ++ v ∷ ys)
       light-amid [] h = (l, h .1)

@@ -3,14 +3,14 @@ use Prim.Native.Nat.{ℕ, zero, suc, _+_, _*_, _≤_, _<_, max}
 use mathlib.Core.Path.{_≡_, refl}
 use mathlib.Core.List.{List, [], _∷_}
 use native.Mathlib.Omega.{arith}
-use lib.ListN.{length, length-append}
+use lib.ListN.{length, length-append, length-map}
 use lib.Dec.{eqb}
 use borrow.Author.Tests.{ne-eqb, eqb-true, eqb-false}
-use Rattle.rules.specs.Word.{Word, word, wear-word, opening-word, record-word, word-steps}
+use Rattle.rules.specs.Word.{Word, word, wear-word, opening-word, word-steps}
 use Rattle.rules.specs.Page.{Page, wear-place, opening-place, slot-place}
-use Rattle.rules.specs.Store.{each, Setting, setting}
+use Rattle.rules.specs.Store.{each, Setting}
 use Rattle.rules.specs.Steps.{renew, renew-all, format-steps, renewed-wear, greatest-wear, Renewal, renewal, renewals, renew-each, renew-picked, other}
-use Rattle.rules.specs.Steps.{copy-steps, open-steps, fill-steps, move-steps}
+use Rattle.rules.specs.Steps.{slots-steps, Change, words-of, open-steps, fill-steps, move-steps}
 use Rattle.rules.proofs.Truth.{by-cases}
 
 pub word-length : (p at : ℕ) (w : Word) → length (word-steps p at w) ≡ 2
@@ -33,9 +33,24 @@ format-long edition n =
     let w = opening-word 1 0 in
     omega (arith, length-append (renew-all edition 0 n) (word-steps 0 opening-place w), renew-all-long edition 0 n, word-length 0 opening-place w)
 
-pub open-long : (p o a v : ℕ) → length (open-steps p o a v) ≡ 4
+-- ---- slots: two steps for each
+
+pub slots-long : (p k : ℕ) (ws : List Word) → length (slots-steps p k ws) ≡ 2 * length ws
+unfolding slots-steps
+slots-long p k [] = refl
+slots-long p k (w ∷ ws) =
+    omega (arith, length-append (word-steps p (slot-place k) w) (slots-steps p (suc k) ws), word-length p (slot-place k) w, slots-long p (suc k) ws)
+
+pub open-long : (p o : ℕ) (c : Change) → length (open-steps p o c) ≡ 2 + 2 * length (words-of c)
 unfolding open-steps
-open-long p o a v = simp (length-append, word-length)
+open-long p o c =
+    let w = opening-word 1 o in
+    omega (
+      arith,
+      length-append (word-steps p opening-place w) (slots-steps p 0 (words-of c)),
+      word-length p opening-place w,
+      slots-long p 0 (words-of c),
+    )
 
 -- ---- pages renewed: three steps for each
 
@@ -64,16 +79,9 @@ renewals-others p g k (x ∷ ps) h l =
     let rest = renewals-others p (max g (renewed-wear g (x .wear))) (suc k) ps (omega arith) (omega arith) in
     rw t (omega arith))
 
-copies-long : (p k : ℕ) (rs : List Setting) → length (copy-steps p k rs) ≡ 2 * length rs
-unfolding copy-steps
-copies-long p k [] = refl
-copies-long p k (setting a v ∷ rs) =
-    let w = record-word a v in
-    omega (arith, length-append (word-steps p (slot-place k) w) (copy-steps p (suc k) rs), word-length p (slot-place k) w, copies-long p (suc k) rs)
-
 fill-long : (p o : ℕ) (rs : List Setting) → length (fill-steps p o rs) ≡ 4 + 2 * length rs
 unfolding fill-steps
-fill-long p o rs = simp (length-append, word-length, copies-long) (omega arith)
+fill-long p o rs = simp (length-append, word-length, slots-long, length-map) (omega arith)
 
 pub move-long : (edition p o : ℕ) (rs : List Setting) (ps : List Page) → p < length ps
     → length (move-steps edition p o rs ps) + 3 ≡ 4 + 2 * length rs + 3 * length ps

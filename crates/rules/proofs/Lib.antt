@@ -12,6 +12,7 @@ pub mod Pages
 pub mod Settings
 pub mod Conditions
 pub mod Slots
+pub mod Groups
 pub mod Stores
 pub mod Active
 pub mod Building
@@ -22,12 +23,13 @@ pub mod Ready
 pub mod Held
 pub mod Answers
 pub mod Good
-pub mod Recovering
 pub mod Appending
+pub mod Recovering
 pub mod Opening
 pub mod Moving
 pub mod Writing
 pub mod Formatting
+pub mod Editions
 pub mod Healthy
 pub mod Laid
 pub mod Broken

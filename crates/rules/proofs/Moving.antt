@@ -2,26 +2,27 @@
 use Prim.Native.Nat.{ℕ, suc, _+_, _-_, _≤_}
 use mathlib.Core.Path.{_≡_, refl, sym, ap, _∙_, subst}
 use mathlib.Core.Bool.{Bool, true, false, not}
-use mathlib.Core.List.{List, [], _∷_, _++_, append-nil}
+use mathlib.Core.List.{List, [], _∷_, _++_, map, append-nil}
 use native.Mathlib.Omega.{arith}
-use lib.ListN.{length, replicate}
+use lib.ListN.{length, length-map, replicate}
 use lib.Seq.{set-append-seam}
 use borrow.Author.Tests.{le-leb, eq-eqb}
 use Rattle.rules.specs.Flash.{Step}
 use Rattle.rules.specs.Word.{Word, sound, opening-word, done-word, word-steps}
 use Rattle.rules.specs.Page.{blank-word, opening-part, done-part, State, open₂, Page, page, state, slots, opening-place, done-place}
 use Rattle.rules.specs.Store.{order, order₂, used, used-pages, oldest-first, insert, Setting, records, each, all-records}
-use Rattle.rules.specs.Steps.{greatest-wear, renewals, renew-each, renew-picked, other, copy-steps, fill-steps, move-steps}
+use Rattle.rules.specs.Steps.{greatest-wear, renewals, renew-each, renew-picked, other, record-of, slots-steps, fill-steps}
+use Rattle.rules.specs.Steps.{move-steps}
 use Rattle.rules.proofs.Truth.{not-both}
 use Rattle.rules.proofs.Words.{sound-light, blank-not-sound, done-sound}
-use Rattle.rules.proofs.Pages.{replicate-all-blank, undone-not-open, opened-received, opening-not-plain}
-use Rattle.rules.proofs.Slots.{blank-records, records-append, Lawful, written, written-records}
+use Rattle.rules.proofs.Pages.{undone-not-open, opened-received, opening-not-plain}
+use Rattle.rules.proofs.Slots.{Lawful, blanks-unsound, copied-records}
 use Rattle.rules.proofs.Stores.{orders, base-amid, used-amid, NoneUsed, none-used, none-used-pages}
 use Rattle.rules.proofs.Phases.{Pages, word-turns, word-run, turns-through, through-append, through-end, turns-after, turns-before, store-run}
 use Rattle.rules.proofs.Phases.{store-run-append}
 use Rattle.rules.proofs.Told.{told}
 use Rattle.rules.proofs.Active.{taken-page}
-use Rattle.rules.proofs.Building.{room, room-is, copy-run, copy-through}
+use Rattle.rules.proofs.Building.{room, room-is, records-sound, slots-run, slots-through}
 use Rattle.rules.proofs.Good.{Frame, slots-in, words-in, Throughout, Turning, Whole, Keeps, whole-amid, whole-word, keeps-with}
 use Rattle.rules.proofs.Renewing.{renewals-set}
 use Rattle.rules.proofs.Recovering.{Idle, renewals-through}
@@ -68,11 +69,15 @@ module _ (c : Frame) (J : List Setting) (f : Pages) (w : Word) (r : Pages) (t : 
 
   -- the steps, part by part
   module _ (cs : List Setting) (lawful : Lawful cs) (fits : length cs ≤ slots-in c) where
+    -- the records that are copied, as words
+    abbrev ws : List Word
+    ws = map record-of cs
+
     abbrev j : ℕ
-    j = slots-in c - length cs
+    j = slots-in c - length ws
 
     abbrev filled : List Word
-    filled = written cs ++ replicate j blank-word
+    filled = ws ++ replicate j blank-word
 
     abbrev New : Pages → Type 0
     New = Keeps c o (o ∷ []) cs
@@ -81,7 +86,7 @@ module _ (c : Frame) (J : List Setting) (f : Pages) (w : Word) (r : Pages) (t : 
     opening = word-steps (length f) opening-place (opening-word 2 o)
 
     abbrev copying : List Step
-    copying = copy-steps (length f) 0 cs
+    copying = slots-steps (length f) 0 ws
 
     abbrev doing : List Step
     doing = word-steps (length f) done-place (done-word o)
@@ -93,24 +98,24 @@ module _ (c : Frame) (J : List Setting) (f : Pages) (w : Word) (r : Pages) (t : 
     abbrev renewing : Pages → List Step
     renewing F = renew-each (c .form .edition) (renewals (λ j s. other (length f) j) greatest 0 (told (c .form .edition) F))
 
-    room-there : replicate (slots-in c) blank-word ≡ room cs (replicate j blank-word)
-    room-there = room-is cs (slots-in c) fits
+    room-there : replicate (slots-in c) blank-word ≡ room ws (replicate j blank-word)
+    room-there = room-is ws (slots-in c) (omega (arith, length-map cs record-of))
 
-    started : Whole c (receives blank-word (room cs (replicate j blank-word)))
+    started : Whole c (receives blank-word (room ws (replicate j blank-word)))
     started = subst (λ (ws : List Word). Whole c (receives blank-word ws)) room-there (begun-whole c J f w r t 2)
 
-    opening-run : store-run (words-in c) opening (pages-now c J f w r t) ≡ receiving blank-word (room cs (replicate j blank-word))
+    opening-run : store-run (words-in c) opening (pages-now c J f w r t) ≡ receiving blank-word (room ws (replicate j blank-word))
     opening-run =
         word-run (words-in c) f r (w ∷ []) (replicate (suc (slots-in c)) blank-word) (opening-word 2 o) ∙ ap (receiving blank-word) room-there
 
-    copies-through : Throughout c Old copying (receiving blank-word (room cs (replicate j blank-word)))
+    copies-through : Throughout c Old copying (receiving blank-word (room ws (replicate j blank-word)))
     copies-through =
-        copy-through (words-in c) f r w (opening-word 2 o) (replicate j blank-word) (c .May) Old (λ ws. Whole c (receives blank-word ws))
-        (λ ws q. receiving-keeps blank-word ws blank-not-sound q)
-        (λ xs v zs l q. whole-word c (w ∷ opening-word 2 o ∷ blank-word ∷ xs) blank-word v zs q l) cs [] started
+        slots-through (words-in c) f r w (opening-word 2 o) blank-word (c .May) Old (λ vs. Whole c (receives blank-word vs))
+        (λ vs q. receiving-keeps blank-word vs blank-not-sound q)
+        (λ xs v zs l q. whole-word c w (opening-word 2 o ∷ blank-word ∷ xs) blank-word v zs q l) ws [] (replicate j blank-word) (records-sound cs) started
 
-    copies-run : store-run (words-in c) copying (receiving blank-word (room cs (replicate j blank-word))) ≡ receiving blank-word filled
-    copies-run = copy-run (words-in c) f r w (opening-word 2 o) (replicate j blank-word) cs []
+    copies-run : store-run (words-in c) copying (receiving blank-word (room ws (replicate j blank-word))) ≡ receiving blank-word filled
+    copies-run = slots-run (words-in c) f r w (opening-word 2 o) blank-word ws [] (replicate j blank-word)
 
     full : Whole c (receives blank-word filled)
     full = whole-amid c f (receives blank-word filled) r (subst Old copies-run (through-end copies-through) .whole) .1
@@ -123,11 +128,8 @@ module _ (c : Frame) (J : List Setting) (f : Pages) (w : Word) (r : Pages) (t : 
         let u = under-apart c J f w r t in
         (none-used b o (told (c .form .edition) f) l (u .0), none-used b o (told (c .form .edition) r) l (u .1))
 
-    filled-records : records filled ≡ cs
-    filled-records =
-        records-append (written cs) (replicate j blank-word)
-        ∙ ap (λ (rs : List Setting). records (written cs) ++ rs) (blank-records (replicate j blank-word) (replicate-all-blank j))
-        ∙ append-nil (records (written cs)) ∙ written-records cs lawful
+    filled-records : records (c .form .edition) filled ≡ cs
+    filled-records = copied-records (c .form .edition) cs (replicate j blank-word) lawful (blanks-unsound j)
 
     done-keeps : New (receiving (done-word o) filled)
     unfolding page orders order order₂ used slots oldest-first insert each
@@ -145,14 +147,14 @@ module _ (c : Frame) (J : List Setting) (f : Pages) (w : Word) (r : Pages) (t : 
         let only : used-pages o (fp ++ q ∷ rp) ≡ q ∷ [] =
         used-amid o fp q rp u ∙ rw (none-used-pages o fp (others-unused .0), none-used-pages o rp (others-unused .1)) in
         keeps-with c (t .good .base-order) (t .good .used-by) J f (taken-page (slots-in c) w) r (t .good .keeps) qg
-        (whole-word c (w ∷ opening-word 2 o ∷ []) blank-word (done-word o) filled full (sound-light (done-word o) (done-sound o)))
+        (whole-word c w (opening-word 2 o ∷ []) blank-word (done-word o) filled full (sound-light (done-word o) (done-sound o)))
         (omega arith) (ap orders only ∙ rw e)
-        (ap (λ (ps : List Page). all-records (oldest-first ps)) only ∙ append-nil (records filled) ∙ filled-records)
+        (ap (λ (ps : List Page). all-records (oldest-first ps)) only ∙ append-nil (records (c .form .edition) filled) ∙ filled-records)
 
     done-turns : Turning c Old New doing (receiving blank-word filled)
     done-turns =
         word-turns (words-in c) f r (w ∷ opening-word 2 o ∷ []) filled (c .May) Old New (done-word o) (done-sound o)
-        (λ d p. receiving-keeps d filled (p .not-sound) (whole-word c (w ∷ opening-word 2 o ∷ []) blank-word d filled full (p .light))) done-keeps
+        (λ d p. receiving-keeps d filled (p .not-sound) (whole-word c w (opening-word 2 o ∷ []) blank-word d filled full (p .light))) done-keeps
 
     done-run : store-run (words-in c) doing (receiving blank-word filled) ≡ receiving (done-word o) filled
     done-run = word-run (words-in c) f r (w ∷ opening-word 2 o ∷ []) filled (done-word o)

@@ -1,5 +1,5 @@
--- A cleared page is taken and opened, and a record goes into its first slot. Assumes nothing.
-use Prim.Native.Nat.{ℕ, zero, suc, _-_, _≤_, _<_, max}
+-- A cleared page is taken and opened, and words go into its slots. Assumes nothing.
+use Prim.Native.Nat.{ℕ, suc, _≤_, _<_, max}
 use mathlib.Core.Path.{_≡_, sym, ap, _∙_, subst}
 use mathlib.Core.Logic.{inr}
 use mathlib.Core.Bool.{true, false}
@@ -7,13 +7,13 @@ use mathlib.Core.List.{List, [], _∷_, _++_, append-nil}
 use native.Mathlib.Omega.{arith}
 use lib.ListN.{length, length-append, replicate}
 use borrow.Author.Tests.{le-leb}
-use Rattle.rules.specs.Word.{Word, opening-word, record-word, word-steps}
-use Rattle.rules.specs.Page.{blank-word, is-wear, opening-part, open₁, Page, page, state, slots, opening-place, slot-place}
-use Rattle.rules.specs.Store.{states, base, order, order₂, used, is-open, used-pages, oldest-first, Setting, setting, all-records}
-use Rattle.rules.specs.Steps.{open-steps, next-order}
+use Rattle.rules.specs.Word.{Word, opening-word, word-steps}
+use Rattle.rules.specs.Page.{blank-word, is-wear, opening-part, open₁, Page, page, state, slots, opening-place}
+use Rattle.rules.specs.Store.{states, base, order, order₂, used, is-open, used-pages, oldest-first, Setting, all-records, put-all, outside, place-behind}
+use Rattle.rules.specs.Steps.{slots-steps, next-order}
 use Rattle.rules.specs.Call.{repeats}
 use Rattle.rules.proofs.Words.{sound-light, opening-sound}
-use Rattle.rules.proofs.Pages.{replicate-all-blank, fresh-not-open, unopened-not-open, opened-plain}
+use Rattle.rules.proofs.Pages.{fresh-not-open, unopened-not-open, opened-plain}
 use Rattle.rules.proofs.Slots.{blank-records}
 use Rattle.rules.proofs.Stores.{Under, orders, orders-append, base-amid, used-amid, unused-amid, closed-not-used, closed-order₂, under-below}
 use Rattle.rules.proofs.Stores.{under-append, base-under, journal-amid, repeats-insert}
@@ -22,12 +22,8 @@ use Rattle.rules.proofs.Told.{told}
 use Rattle.rules.proofs.Active.{taken-page}
 use Rattle.rules.proofs.Good.{Frame, slots-in, words-in, Turning, Whole, Keeps, Good, whole-amid, whole-word, keeps-base, keeps-orders}
 use Rattle.rules.proofs.Good.{keeps-journal, keeps-with, keeps-fade, good-still, good-under}
-use Rattle.rules.proofs.Appending.{Newest, others, Writable, append-good}
-
--- a page with a slot has a first one
-one-blank : (m : ℕ) → 0 < m → replicate m blank-word ≡ blank-word ∷ replicate (m - 1) blank-word
-one-blank zero l = absurd (omega arith)
-one-blank (suc m) l = let e : m ≡ suc m - 1 = omega arith in ap (λ (n : ℕ). blank-word ∷ replicate n blank-word) e
+use Rattle.rules.proofs.Appending.{Newest, others, enter-turns}
+use Rattle.rules.proofs.Groups.{Enters}
 
 -- a good store with a cleared page that is taken, w being its wear word
 pub record Taking (c : Frame) (J : List Setting) (f : Pages) (w : Word) (r : Pages) : Type 0 where
@@ -78,7 +74,7 @@ module _ (c : Frame) (J : List Setting) (f : Pages) (w : Word) (r : Pages) (t : 
   -- the page with its opening word, of whatever kind, and the turn to it
   pub begun-whole : (kind : ℕ) → Whole c (begun (opening-word kind next))
   begun-whole kind =
-      whole-word c (w ∷ []) blank-word (opening-word kind next) (replicate (suc (slots-in c)) blank-word)
+      whole-word c w [] blank-word (opening-word kind next) (replicate (suc (slots-in c)) blank-word)
       (whole-amid c f (taken-page (slots-in c) w) r (h .whole) .1) (sound-light (opening-word kind next) (opening-sound kind next))
 
   pub opening-turns : (kind : ℕ) (New : Pages → Type 0) → New (f ++ begun (opening-word kind next) ∷ r)
@@ -88,7 +84,7 @@ module _ (c : Frame) (J : List Setting) (f : Pages) (w : Word) (r : Pages) (t : 
       word-turns (words-in c) f r (w ∷ []) (replicate (suc (slots-in c)) blank-word) (c .May) Kept New (opening-word kind next) (opening-sound kind next)
       (λ v p.
       closed-keeps (begun v)
-      (whole-word c (w ∷ []) blank-word v (replicate (suc (slots-in c)) blank-word) (whole-amid c f (taken-page (slots-in c) w) r (h .whole) .1) (p .light))
+      (whole-word c w [] blank-word v (replicate (suc (slots-in c)) blank-word) (whole-amid c f (taken-page (slots-in c) w) r (h .whole) .1) (p .light))
       (unopened-not-open (c .form .edition) (begun v) (p .not-sound)))
       new
 
@@ -155,7 +151,7 @@ module _ (c : Frame) (J : List Setting) (f : Pages) (w : Word) (r : Pages) (t : 
       keeps-with c b (t .good .used-by) J f (taken-page (slots-in c) w) r h qg (begun-whole 1) (omega arith)
       (ap orders (used-amid b fp q rp (opened-newest .is-used)) ∙ orders-append (used-pages b fp) (q ∷ used-pages b rp) ∙ rw opened)
       (journal-amid b fp q rp (opened-newest .is-used) (opened-newest .before) (opened-newest .behind)
-      ∙ ap (λ (rs : List Setting). others (c .form .edition) b f r ++ rs) (blank-records (replicate (slots-in c) blank-word) (replicate-all-blank (slots-in c)))
+      ∙ ap (λ (rs : List Setting). others (c .form .edition) b f r ++ rs) (blank-records (c .form .edition) (slots-in c))
       ∙ append-nil (others (c .form .edition) b f r) ∙ sym journal-apart)
 
   opened-good : suc (length (t .good .used-by)) < c .pages → (G : Pages) → Keeps c b wider J G → Good c J G
@@ -174,19 +170,17 @@ module _ (c : Frame) (J : List Setting) (f : Pages) (w : Word) (r : Pages) (t : 
         few = t .good .few;
       }
 
-  pub open-case : (a v : ℕ) → Writable c J a → suc (length (t .good .used-by)) < c .pages
-      → Turning c (Good c J) (Good c (J ++ setting a v ∷ [])) (open-steps (length f) next a v) pages-now
-  unfolding open-steps opened-good
-  open-case a v ok two =
+  -- words that fit into a page go into it
+  pub open-case : {ws : List Word} {rs : List Setting} → length (put-all [] (J ++ rs)) ≤ c .limit → Enters (c .form .edition) outside ws rs
+      → length ws ≤ slots-in c → suc (length (t .good .used-by)) < c .pages
+      → Turning c (Good c J) (Good c (J ++ rs)) (word-steps (length f) opening-place (opening-word 1 next) ++ slots-steps (length f) 0 ws) pages-now
+  unfolding opened-good place-behind
+  open-case {ws} {rs} few en fits two =
       let G = f ++ qg ∷ r in
       let good : Good c J G = opened-good two G opened-keeps in
       let first = turns-through (turns-map (good-still c J pages-now (t .good) J (t .good .few))
       (opened-good two) (opening-turns 1 (Keeps c b wider J) opened-keeps)) in
-      let O = opening-word 1 next in
-      let more = slots-in c - 1 in
-      let e = one-blank (slots-in c) (c .some) in
-      let last = append-good c J a v ok G good f w O blank-word [] (replicate more blank-word) r
-      (ap (λ (ws : List Word). f ++ (w ∷ O ∷ blank-word ∷ ws) ∷ r) e)
-      (subst (λ (ws : List Word). Newest (c .form .edition) b f (w ∷ O ∷ blank-word ∷ ws) r) e opened-newest) (replicate-all-blank more) in
+      let last = turns-map (good-still c J G good J (t .good .few)) (good-still c J G good (J ++ rs) few)
+      (enter-turns c b wider J f w (opening-word 1 next) blank-word [] (slots-in c) r opened-newest opened-keeps en fits) in
       let ran = word-run (words-in c) f r (w ∷ []) (replicate (suc (slots-in c)) blank-word) (opening-word 1 next) in
-      turns-after first (subst (Turning c (Good c J) (Good c (J ++ setting a v ∷ [])) (word-steps (length f) (slot-place 0) (record-word a v))) (sym ran) last)
+      turns-after first (subst (Turning c (Good c J) (Good c (J ++ rs)) (slots-steps (length f) 0 ws)) (sym ran) last)

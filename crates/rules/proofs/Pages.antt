@@ -2,7 +2,7 @@
 use Prim.Native.Nat.{ℕ, zero, suc, _+_, _*_, _%_, _<_}
 use mathlib.Core.Path.{_≡_, refl, sym, ap, ap₂, _∙_, subst}
 use mathlib.Core.Logic.{_⊎_, inl, inr, ⊎-elim}
-use mathlib.Core.Bool.{Bool, true, false, cond}
+use mathlib.Core.Bool.{Bool, true, false, cond, _&&_, _||_}
 use mathlib.Core.List.{List, [], _∷_}
 use native.Mathlib.Omega.{arith}
 use lib.ListN.{length, getD, drop, replicate}
@@ -71,6 +71,22 @@ open-has edition P h =
     (λ o₂. not-both h′ (ap is-open (unopened P n o₁ o₂) ∙ cleared-or-bad (all-blank (drop 1 P)) n))))
     (λ w. not-both h (rw (no-wear edition P w)))
 
+-- which words make a page open, all in one test
+pub open-is : (edition : ℕ) (P : List Word) → is-open (state edition P)
+    ≡ (is-wear edition (wear-part P)
+    && (is-opening 1 (opening-part P) || (is-opening 2 (opening-part P) && is-done (order-in (opening-part P)) (done-part P))))
+unfolding is-open
+open-is edition P =
+    let n = low16 (wear-part P) in
+    by-cases (is-wear edition (wear-part P))
+    (λ w.
+    ap is-open (with-wear edition P w)
+    ∙ by-cases (is-opening 1 (opening-part P)) (λ o. rw (plain P n o, w, o))
+    (λ o. by-cases (is-opening 2 (opening-part P))
+    (λ q. by-cases (is-done (order-in (opening-part P)) (done-part P)) (λ d. rw (received P n o q d, w, o, q, d)) (λ d. rw (unfinished P n o q d, w, o, q, d)))
+    (λ q. rw (unopened P n o q, w, o, q) (cleared-or-bad (all-blank (drop 1 P)) n))))
+    (λ w. rw (no-wear edition P w, w))
+
 -- pages that have those words alike are in the same state
 pub open-like : (edition : ℕ) (P Q : List Word) → IsOpen edition P → wear-part P ≡ wear-part Q → opening-part P ≡ opening-part Q
     → (is-opening 1 (opening-part P) ≡ false → done-part P ≡ done-part Q) → state edition P ≡ state edition Q
@@ -114,6 +130,18 @@ rise-part (more r rs) l (suc i) s = rise-part rs (l .1) i s
 pub rise-length : {P Q : List Word} → WordsRise P Q → length P ≡ length Q
 rise-length none = refl
 rise-length (more r rs) = ap suc (rise-length rs)
+
+-- a page whose wear word, if it is sound, is of that edition
+abbrev pub OfEdition : (edition : ℕ) → List Word → Type 0
+OfEdition edition P = sound (wear-part P) ≡ true → third (wear-part P) ≡ edition
+
+unfoldable pub AllOfEdition : (edition : ℕ) → List (List Word) → Type 0
+AllOfEdition edition [] = Unit {0}
+AllOfEdition edition (P ∷ Ps) = OfEdition edition P × AllOfEdition edition Ps
+
+pub rise-edition : (edition : ℕ) {P Q : List Word} → WordsRise P Q → AllLight P → OfEdition edition P → OfEdition edition Q
+unfolding wear-part
+rise-edition edition r l h s = let e = rise-part r l 0 s in rw e at (h (rw e s))
 
 -- a torn erase opens no page: one that was open keeps its state or is no longer open
 pub rise-fades : (edition : ℕ) {P Q : List Word} → WordsRise P Q → AllLight P → Fades (state edition P) (state edition Q)

@@ -13,7 +13,7 @@ use borrow.Author.Tests.{eqb-true, eqb-false, ltb-false, leb-true, leb-false, le
 use Rattle.rules.specs.Word.{Word}
 use Rattle.rules.specs.Page.{Form, word-count, size, State, cleared, open₁, open₂, receiving, bad, page}
 use Rattle.rules.specs.Store.{states, order₂, base, greatest, used, is-open, is-cleared, used-orders, used-pages, active-index, count}
-use Rattle.rules.specs.Steps.{format-steps, taken}
+use Rattle.rules.specs.Steps.{unclean, format-steps, taken}
 use Rattle.rules.specs.Call.{page-count, cut, pages, wrong-size, no-store, repeats, all-used, damaged, is-unclean, store-number, OK}
 use Rattle.rules.proofs.Rows.{store-fails}
 use Rattle.rules.proofs.Truth.{by-cases, or-false-left, or-false-right}
@@ -160,12 +160,12 @@ module _ (fm : Form) (i : List ℕ) (ok : store-number fm i ≡ OK) where
       let n = cut-length (size fm) (page-count fm i) i in
       omega arith
 
-  module _ (clean : is-unclean (states (pages fm i)) ≡ false) where
+  module _ (clean : is-unclean (pages fm i) ≡ false) where
     pub cleared-there : length orders-of + count is-cleared (states (pages fm i)) ≡ page-count fm i
     unfolding pages is-unclean
     cleared-there =
         some-cleared (fm .edition) (word-count fm) base-of (page-count fm i) orders-of words-of ordered (cut-length (size fm) (page-count fm i) i)
-        (eqb-true _ 0 (not-false _ clean))
+        (eqb-true _ 0 (not-false _ (or-false-left (not (eqb (count (unclean base-of) (states (pages fm i))) 0)) _ clean)))
 
     one-spare : length orders-of < page-count fm i
     unfolding damaged all-used pages states

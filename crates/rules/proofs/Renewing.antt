@@ -9,8 +9,8 @@ use lib.Seq.{append-snoc}
 use Rattle.rules.specs.Flash.{Step, erase}
 use Rattle.rules.specs.Word.{Word, wear-word, opening-word, word-steps}
 use Rattle.rules.specs.Page.{blank-word, State, page, state, wear-in, opening-place}
-use Rattle.rules.specs.Store.{each}
-use Rattle.rules.specs.Steps.{renew, renew-all, format-steps, renewed-wear, renewals, renew-each}
+use Rattle.rules.specs.Store.{each, greatest, or-value}
+use Rattle.rules.specs.Steps.{renew, renew-all, format-steps, renewed-wear, greatest-wear, renewals, renew-each}
 use Rattle.rules.proofs.Truth.{by-cases}
 use Rattle.rules.proofs.Words.{wear-sound, opening-sound}
 use Rattle.rules.proofs.Shape.{target, page-after, store-after}
@@ -82,6 +82,23 @@ renewals-set edition picks g k (suc p) x (y ∷ F) h =
     let rest : (m : ℕ) → renewals picks m (suc k) (map (page edition) (set F p x)) ≡ renewals picks m (suc k) (map (page edition) F) =
     λ m. renewals-set edition picks m (suc k) p x F (λ s. subst (λ (m : ℕ). picks m s ≡ false) e (h s)) in
     rw (rest g, rest (max g (renewed-wear g (page edition y .wear))))
+
+-- nor what has its state and its wear still
+pub renewals-alike : (edition : ℕ) (picks : ℕ → State → Bool) (g k : ℕ) (f : Pages) (pg qg : List Word) (r : Pages)
+    → state edition pg ≡ state edition qg → wear-in edition pg ≡ wear-in edition qg
+    → renewals picks g k (map (page edition) (f ++ pg ∷ r)) ≡ renewals picks g k (map (page edition) (f ++ qg ∷ r))
+unfolding renewals page
+renewals-alike edition picks g k [] pg qg r s w = rw (s, w)
+renewals-alike edition picks g k (x ∷ f) pg qg r s w =
+    let rest : (m : ℕ) → renewals picks m (suc k) (map (page edition) (f ++ pg ∷ r)) ≡ renewals picks m (suc k) (map (page edition) (f ++ qg ∷ r)) =
+    λ m. renewals-alike edition picks m (suc k) f pg qg r s w in
+    rw (rest g, rest (max g (renewed-wear g (wear-in edition x))))
+
+pub greatest-alike : (edition : ℕ) (f : Pages) (pg qg : List Word) (r : Pages) → wear-in edition pg ≡ wear-in edition qg
+    → greatest-wear (map (page edition) (f ++ pg ∷ r)) ≡ greatest-wear (map (page edition) (f ++ qg ∷ r))
+unfolding greatest-wear greatest page
+greatest-alike edition [] pg qg r w = rw w
+greatest-alike edition (x ∷ f) pg qg r w = ap (max (or-value (wear-in edition x) 0)) (greatest-alike edition f pg qg r w)
 
 -- ---- format, of whatever stood there
 

@@ -4,12 +4,14 @@ use mathlib.Core.Path.{_≡_, refl, sym}
 use mathlib.Core.Bool.{true, false, cond, not, true≢false}
 use mathlib.Core.List.{List, [], _∷_, _++_}
 use native.Mathlib.Omega.{arith}
+use lib.ListN.{length}
 use lib.Dec.{eqb}
 use borrow.Author.Tests.{eq-eqb}
 use Rattle.rules.specs.Page.{Form}
-use Rattle.rules.specs.Store.{states, value}
-use Rattle.rules.specs.Steps.{is-value}
-use Rattle.rules.specs.Call.{Row, row, first-of, pages, wrong-size, no-store, damaged, is-unclean, wrong-address, is-held, no-room}
+use Rattle.rules.specs.Store.{value}
+use Rattle.rules.specs.Steps.{Change, settings-of, words-of, all-values}
+use Rattle.rules.specs.Call.{Row, row, first-of, pages, wrong-size, no-store, damaged, is-unclean, wrong-group, wrong-address, a-wrong-address}
+use Rattle.rules.specs.Call.{is-held, no-room}
 use Rattle.rules.specs.Call.{order-end, store-rows, store-number, blank-read-rows, blank-read-number, read-rows, read-number, write-only-rows}
 use Rattle.rules.specs.Call.{write-rows, write-number, among, OK, ADDRESS, NOT-HELD}
 use Rattle.rules.proofs.Truth.{not-both, or-first, or-false-right}
@@ -87,27 +89,29 @@ module _ (fm : Form) (i : List ℕ) where
   unfolding read-number read-rows blank-read-number blank-read-rows store-rows first-of Refusing
   read-goes-on a = goes-on (blank-read-rows fm a i) (row NOT-HELD (not (is-held (value a (pages fm i)))) ∷ []) tt
 
-  pub write-goes-on : (a v : ℕ) → write-number fm a v i ≡ then (store-number fm i) (first-of (write-only-rows a v (pages fm i)))
+  pub write-goes-on : (c : Change) → write-number fm c i ≡ then (store-number fm i) (first-of (write-only-rows (fm .edition) c (pages fm i)))
   unfolding write-number write-rows store-number
-  write-goes-on a v = goes-on (store-rows fm i) (write-only-rows a v (pages fm i)) store-refuses
+  write-goes-on c = goes-on (store-rows fm i) (write-only-rows (fm .edition) c (pages fm i)) store-refuses
 
   -- an accepted write passed each test
-  pub record WriteFails (a v : ℕ) : Type 0 where
+  pub record WriteFails (c : Change) : Type 0 where
     pub stored : store-number fm i ≡ OK
-    pub clean : is-unclean (states (pages fm i)) ≡ false
-    pub address : wrong-address a ≡ false
-    pub room : is-value (value a (pages fm i)) v ≡ false → no-room a (pages fm i) ≡ false
-    pub order : is-value (value a (pages fm i)) v ≡ false → order-end (pages fm i) ≡ false
+    pub clean : is-unclean (pages fm i) ≡ false
+    pub grouped : wrong-group (fm .edition) c ≡ false
+    pub addressed : a-wrong-address (settings-of c) ≡ false
+    pub room : all-values (settings-of c) (pages fm i) ≡ false → no-room (settings-of c) (pages fm i) ≡ false
+    pub order : all-values (settings-of c) (pages fm i) ≡ false → order-end (length (words-of c)) (pages fm i) ≡ false
 
-  pub write-fails : (a v : ℕ) → write-number fm a v i ≡ OK → WriteFails a v
+  pub write-fails : (c : Change) → write-number fm c i ≡ OK → WriteFails c
   unfolding write-number write-rows store-rows AllFail
-  write-fails a v ok =
-      let h = all-fail (write-rows fm a v i) ok in
+  write-fails c ok =
+      let h = all-fail (write-rows fm c i) ok in
       let more = h .1 .1 .1 in
       record {
         stored = store-passes (h .0) (h .1 .0) (h .1 .1 .0);
         clean = more .0;
-        address = more .1 .0;
-        room = λ new. more .1 .1 new .0;
-        order = λ new. more .1 .1 new .1 .0;
+        grouped = more .1 .0;
+        addressed = more .1 .1 .0;
+        room = λ new. more .1 .1 .1 new .0;
+        order = λ new. more .1 .1 .1 new .1 .0;
       }

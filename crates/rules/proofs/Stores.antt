@@ -11,7 +11,7 @@ use lib.Dec.{eqb, leb}
 use borrow.Author.Tests.{le-leb, lt-leb, leb-true, leb-false, eqb-true, eqb-false, eq-eqb, ne-eqb}
 use Rattle.rules.specs.Page.{State, cleared, open₁, open₂, receiving, bad, Page}
 use Rattle.rules.specs.Store.{states, order₂, base, used, is-cleared, is-open, order, add-order, used-orders, greatest, is-active, index-of}
-use Rattle.rules.specs.Store.{add-page, used-pages, insert, oldest-first, Setting, records, each, records-in, all-records, count, Candidate}
+use Rattle.rules.specs.Store.{add-page, used-pages, insert, oldest-first, Setting, each, records-in, all-records, count, Candidate}
 use Rattle.rules.specs.Store.{nobody, page, better, offered, least-worn}
 use Rattle.rules.specs.Steps.{unclean}
 use Rattle.rules.specs.Call.{among, repeats}
@@ -60,6 +60,11 @@ pub count-append : {A : Type 0} (test : A → Bool) (xs ys : List A) → count t
 unfolding count
 count-append test [] ys = omega arith
 count-append test (x ∷ xs) ys = omega (arith, count-append test xs ys)
+
+pub count-alike : {A : Type 0} (f g : A → Bool) → ((x : A) → f x ≡ g x) → (xs : List A) → count f xs ≡ count g xs
+unfolding count
+count-alike f g h [] = refl
+count-alike f g h (x ∷ xs) = rw (h x, count-alike f g h xs)
 
 pub each-append : {A B : Type 0} (of : A → List B) (xs ys : List A) → each of (xs ++ ys) ≡ each of xs ++ each of ys
 unfolding each
@@ -167,13 +172,13 @@ greatest-last q (x ∷ xs) ys h t = rw (greatest-last q xs ys (h .1) t) (insert-
 -- the journal of a store ends with the records of its page of greatest order
 pub journal-amid : (b : ℕ) (f : List Page) (p : Page) (r : List Page) → used b (p .state) ≡ true → Below (order (p .state)) (used-pages b f)
     → Below (order (p .state)) (used-pages b r)
-    → all-records (oldest-first (used-pages b (f ++ p ∷ r))) ≡ all-records (oldest-first (used-pages b f ++ used-pages b r)) ++ records (p .slots)
+    → all-records (oldest-first (used-pages b (f ++ p ∷ r))) ≡ all-records (oldest-first (used-pages b f ++ used-pages b r)) ++ records-in p
 unfolding used-pages add-page each
 journal-amid b f p r u h t =
     ap (λ (ps : List Page). all-records (oldest-first ps)) (used-pages-append b f (p ∷ r) ∙ rw u)
     ∙ ap all-records (greatest-last p (used-pages b f) (used-pages b r) h t)
     ∙ each-append records-in (oldest-first (used-pages b f ++ used-pages b r)) (p ∷ [])
-    ∙ ap (λ (rs : List Setting). all-records (oldest-first (used-pages b f ++ used-pages b r)) ++ rs) (append-nil (records (p .slots)))
+    ∙ ap (λ (rs : List Setting). all-records (oldest-first (used-pages b f ++ used-pages b r)) ++ rs) (append-nil (records-in p))
 
 -- the used pages with a used page in their midst
 pub used-amid : (b : ℕ) (f : List Page) (p : Page) (r : List Page) → used b (p .state) ≡ true → used-pages b (f ++ p ∷ r) ≡ used-pages b f ++ p ∷ used-pages b r

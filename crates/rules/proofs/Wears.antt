@@ -10,9 +10,9 @@ use lib.ListN.{length, length-append, getD}
 use lib.Seq.{append-snoc, set-append-seam, getD-set-other, getD-at}
 use Rattle.rules.specs.Flash.{Half, Step, program, erase}
 use Rattle.rules.specs.Word.{Word, word, wear-word, word-steps}
-use Rattle.rules.specs.Page.{wear-part, wear-in, State, Page, page, state, wear-place}
+use Rattle.rules.specs.Page.{wear-part, wear-in, State, Page, page, state, wear-place, slot-place}
 use Rattle.rules.specs.Store.{each, greatest, or-value}
-use Rattle.rules.specs.Steps.{renew, one-more, renewed-wear, greatest-wear, renewal, renewals, renew-each}
+use Rattle.rules.specs.Steps.{renew, one-more, renewed-wear, greatest-wear, renewals, renew-each, slots-steps}
 use Rattle.rules.proofs.Truth.{by-cases}
 use Rattle.rules.proofs.Words.{wear-is}
 use Rattle.rules.proofs.Pages.{wear-is-wear}
@@ -76,6 +76,29 @@ split k p (word a b c d) rest (s ∷ t ∷ u ∷ before) after e =
     let h₂ = head-eq-of-cons-eq e₂ in
     inr (before, cc, tail-eq-of-cons-eq e₂)
 
+-- words that are programmed come before any erase
+past-word : (k at : ℕ) (v : Word) (rest before : List Step) (p : ℕ) (after : List Step) → word-steps k at v ++ rest ≡ before ++ erase p ∷ after
+    → (b : List Step) × (before ≡ word-steps k at v ++ b) × (rest ≡ b ++ erase p ∷ after)
+unfolding word-steps
+past-word k at (word a b c d) rest [] p after e = no-erase (head-eq-of-cons-eq e)
+past-word k at (word a b c d) rest (s ∷ []) p after e = no-erase (head-eq-of-cons-eq (tail-eq-of-cons-eq e))
+past-word k at (word a b c d) rest (s ∷ t ∷ before) p after e =
+    let e₁ = tail-eq-of-cons-eq e in
+    let h₀ = head-eq-of-cons-eq e in
+    let h₁ = head-eq-of-cons-eq e₁ in
+    (before, cc, tail-eq-of-cons-eq e₁)
+
+pub past-slots : (k at : ℕ) (ws : List Word) (rest before : List Step) (p : ℕ) (after : List Step) → slots-steps k at ws ++ rest ≡ before ++ erase p ∷ after
+    → (b : List Step) × (before ≡ slots-steps k at ws ++ b) × (rest ≡ b ++ erase p ∷ after)
+unfolding slots-steps
+past-slots k at [] rest before p after e = (before, refl, e)
+past-slots k at (w ∷ ws) rest before p after e =
+    let first = word-steps k (slot-place at) w in
+    let more = slots-steps k (suc at) ws in
+    let h = past-word k (slot-place at) w (more ++ rest) before p after (sym (append-assoc first more rest) ∙ e) in
+    let t = past-slots k (suc at) ws rest (h .0) p after (h .2) in
+    (t .0, h .1 ∙ ap (λ (ss : List Step). first ++ ss) (t .1) ∙ sym (append-assoc first more (t .0)), t .2)
+
 -- at another index a page does not matter
 pub beside : {A : Type 0} (f : List A) (x y : A) (r : List A) (q : ℕ) (d : A) → (q ≡ length f → ⊥) → getD (f ++ x ∷ r) q d ≡ getD (f ++ y ∷ r) q d
 beside f x y r q d ne = ap (λ (l : List _). getD l q d) (sym (set-append-seam f y r x)) ∙ getD-set-other (f ++ y ∷ r) (length f) q x d ne
@@ -113,7 +136,7 @@ module _ (edition k′ : ℕ) where
   -- ---- a page when it is erased
 
   -- Of pages F, after the steps before its erase: those before it and behind it, it as it was, and the wear word that it gets.
-  pub record Erased (F : Pages) (before : List Step) (p : ℕ) (after : List Step) : Type 0 where
+  pub record Erased (picks : ℕ → State → Bool) (F : Pages) (before : List Step) (p : ℕ) (after : List Step) : Type 0 where
     pub front : Pages
     pub here : List Word
     pub rest : Pages
@@ -121,6 +144,7 @@ module _ (edition k′ : ℕ) where
     pub place : length front ≡ p
     pub inside : p < length F
     pub as-it-was : getD F p [] ≡ here
+    pub picked : picks p (state edition here) ≡ true
     pub behind : List Step
     pub gets : let wear = renewed-wear (greatest-wear (told edition (front ++ here ∷ rest))) (wear-in edition here) in
         after ≡ word-steps p wear-place (wear-word edition wear) ++ behind
@@ -138,10 +162,11 @@ module _ (edition k′ : ℕ) where
       abbrev q : List Word
       q = fresh edition k′ w
 
-      at-once : (rest : List Step) → Tops edition g (f ++ x ∷ F) → Now (length f) p (wear-word edition w) rest before after
-          → (length f ≤ p) × Erased (f ++ x ∷ F) before p after
+      at-once : (rest : List Step) → picks (length f) (state edition x) ≡ true → Tops edition g (f ++ x ∷ F)
+          → Now (length f) p (wear-word edition w) rest before after
+          → (length f ≤ p) × Erased picks (f ++ x ∷ F) before p after
       unfolding store-run
-      at-once rest tops now =
+      at-once rest t tops now =
           let e = now .1 in (
             omega arith,
             record {
@@ -152,6 +177,7 @@ module _ (edition k′ : ℕ) where
               place = e;
               inside = omega (arith, length-append f (x ∷ F));
               as-it-was = getD-at f x F [] p e;
+              picked = subst (λ (k : ℕ). picks k (state edition x) ≡ true) e t;
               behind = rest;
               gets = now .2 ∙ ap₂ (λ (k n : ℕ). word-steps k wear-place (wear-word edition n) ++ rest) e
                   (same-renewed g (greatest-wear (told edition (f ++ x ∷ F))) (wear-in edition x) tops);
@@ -159,7 +185,7 @@ module _ (edition k′ : ℕ) where
           )
 
       behind-it : (b : List Step) → before ≡ renew edition (length f) w ++ b
-          → (length (f ++ q ∷ []) ≤ p) × Erased ((f ++ q ∷ []) ++ F) b p after → (length f ≤ p) × Erased (f ++ x ∷ F) before p after
+          → (length (f ++ q ∷ []) ≤ p) × Erased picks ((f ++ q ∷ []) ++ F) b p after → (length f ≤ p) × Erased picks (f ++ x ∷ F) before p after
       behind-it b e next =
           let h = next .1 in
           let l : length f < p = omega (arith, next-length f q, next .0) in (
@@ -174,6 +200,7 @@ module _ (edition k′ : ℕ) where
               place = h .place;
               inside = omega (arith, h .inside, length-append (f ++ q ∷ []) F, next-length f q, length-append f (x ∷ F));
               as-it-was = beside f x q F p [] (λ e. omega arith) ∙ ap (λ (G : Pages). getD G p []) (sym (append-snoc f q F)) ∙ h .as-it-was;
+              picked = h .picked;
               behind = h .behind;
               gets = h .gets;
             },
@@ -181,7 +208,7 @@ module _ (edition k′ : ℕ) where
 
     -- g is as good as the greatest, and the steps that renew the pages F, behind pages f, erase page p
     pub erased-at : (g : ℕ) (f F : Pages) → Tops edition g (f ++ F) → (before : List Step) (p : ℕ) (after : List Step)
-        → steps-for g (length f) F ≡ before ++ erase p ∷ after → (length f ≤ p) × Erased (f ++ F) before p after
+        → steps-for g (length f) F ≡ before ++ erase p ∷ after → (length f ≤ p) × Erased picks (f ++ F) before p after
     unfolding renewals each page renew
     erased-at g f [] tops before p after e = absurd (none-there before (erase p) after e)
     erased-at g f (x ∷ F) tops before p after e =
@@ -190,7 +217,7 @@ module _ (edition k′ : ℕ) where
         let w = renewed-wear g (wear-in edition x) in
         let q = fresh edition k′ w in
         let rest = steps-for (max g w) (suc (length f)) F in
-        ⊎-elim (at-once g f x F before p after rest tops)
+        ⊎-elim (at-once g f x F before p after rest t tops)
         (λ (h : Later (length f) p (wear-word edition w) rest before after).
         behind-it g f x F before p after (h .0) (h .1)
         (erased-at (max g w) (f ++ q ∷ []) F (subst (Tops edition (max g w)) (sym (append-snoc f q F)) (tops-renewed g f x F tops)) (h .0) p after
@@ -199,7 +226,7 @@ module _ (edition k′ : ℕ) where
         (λ t.
         let next = erased-at g (f ++ x ∷ []) F (subst (Tops edition g) (sym (append-snoc f x F)) tops) before p after
         (ap (λ (k : ℕ). steps-for g k F) (next-length f x) ∙ (rw t at e)) in
-        (omega (arith, next-length f x, next .0), subst (λ (G : Pages). Erased G before p after) (append-snoc f x F) (next .1)))
+        (omega (arith, next-length f x, next .0), subst (λ (G : Pages). Erased picks G before p after) (append-snoc f x F) (next .1)))
 
 further : (here before after : List Step) {ss : List Step} → ss ≡ before ++ after → here ++ ss ≡ (here ++ before) ++ after
 further here before after e = ap (λ (ss : List Step). here ++ ss) e ∙ sym (append-assoc here before after)

@@ -1,19 +1,20 @@
 -- C and N: the whole outcome of each call, accepted or refused.
-use Prim.Native.Nat.{ℕ, zero, suc, _*_, _/_, _%_, _<_}
+use Prim.Native.Nat.{ℕ, zero, suc, _+_, _*_, _/_, _%_, _≤_, _<_}
 use mathlib.Core.Bool.{Bool, true, false, cond, not, _&&_, _||_}
 use mathlib.Core.List.{List, [], _∷_, _++_, map}
 use mathlib.Core.Option.{Option, none, some}
 use lib.ListN.{length, take, drop}
 use lib.Dec.{eqb, leb, ltb}
 use Rattle.rules.specs.Flash.{Step, bytes-at, run}
-use Rattle.rules.specs.Word.{Word, words}
-use Rattle.rules.specs.Page.{Form, size, State, Page, page}
-use Rattle.rules.specs.Store.{states, base, used, is-open, used-orders, active-order, count, held, value, or-value}
-use Rattle.rules.specs.Steps.{format-steps, recovery-steps, write-steps, unclean, is-value, has-free-slot}
+use Rattle.rules.specs.Word.{Word, words, third, has-groups}
+use Rattle.rules.specs.Page.{Form, size, Chip, in-edition, State, wear-part, state, Page, page}
+use Rattle.rules.specs.Store.{states, base, used, is-open, used-orders, active-order, count, held, value, or-value, Setting, setting}
+use Rattle.rules.specs.Store.{address-of, has-room, open-group}
+use Rattle.rules.specs.Steps.{format-steps, recovery-steps, write-steps, unclean, Change, single, group, settings-of, words-of, all-values}
 
--- P1. the one form that there is: pages of 1,024 bytes, and so 253 slots
-abbrev pub this-form : Form
-this-form = record { slot-count = 253; edition = 1 }
+-- P1. the one chip that there is: pages of 1,024 bytes, and so 253 slots, of the first edition or the second
+abbrev pub this-chip : Chip
+this-chip = record { slot-count = 253; first = 1; last = 2 }
 
 -- S7. how many addresses may be held; W8. the last order
 abbrev pub held-limit : ℕ
@@ -26,7 +27,11 @@ order-limit = 4194303
 abbrev pub Roomy : Form → Type 0
 Roomy f = held-limit < f .slot-count
 
--- N0 to N8. the answers by number
+-- the same of a chip, which has an edition
+abbrev pub RoomyChip : Chip → Type 0
+RoomyChip c = (held-limit < c .slot-count) × (c .first ≤ c .last)
+
+-- N0 to N9. the answers by number
 abbrev pub OK : ℕ
 OK = 0
 
@@ -54,6 +59,9 @@ ORDER-END = 7
 abbrev pub NOT-HELD : ℕ
 NOT-HELD = 8
 
+abbrev pub GROUP : ℕ
+GROUP = 9
+
 -- P2. Pages of an image: n of them, each of `size` bytes.
 unfoldable pub cut : (size n : ℕ) → List ℕ → List (List Word)
 cut size zero i = []
@@ -71,6 +79,28 @@ page-count f i = length i / size f
 
 unfoldable pub pages : Form → List ℕ → List Page
 pages f i = first-pages f (page-count f i) i
+
+-- P9. A page by itself: the third byte of its wear word is its edition. Whether it is open by that, which the chip must have.
+unfoldable pub has-edition : Chip → (edition : ℕ) → Bool
+has-edition c e = leb (c .first) e && leb e (c .last)
+
+unfoldable pub own-edition : List Word → ℕ
+own-edition p = third (wear-part p)
+
+unfoldable pub opens-itself : Chip → List Word → Bool
+opens-itself c p = has-edition c (own-edition p) && is-open (state (own-edition p) p)
+
+-- P10. The store's edition: that of the open page of lowest index, and without one the first. By it all pages are read, so that one
+-- of another edition is bad, and has no wear.
+unfoldable pub edition-of : Chip → List (List Word) → ℕ
+edition-of c [] = c .first
+edition-of c (p ∷ ps) = cond (opens-itself c p) (own-edition p) (edition-of c ps)
+
+-- the form by which an image is read
+unfoldable pub form-of : Chip → List ℕ → Form
+form-of c i =
+    let f = in-edition c (c .first) in
+    in-edition c (edition-of c (cut (size f) (page-count f i) i))
 
 -- N1. SIZE: the page size does not divide the length, or there are fewer than 2 pages or more than 32.
 unfoldable pub wrong-size : Form → List ℕ → Bool
@@ -96,25 +126,38 @@ unfoldable pub damaged : List Page → Bool
 damaged ps =
     repeats (used-orders (base (states ps)) (states ps)) || (all-used (states ps) || ltb held-limit (held ps))
 
--- N4. UNCLEAN: a page is unclean.
-unfoldable pub is-unclean : List State → Bool
-is-unclean ss = not (eqb (count (unclean (base ss)) ss) 0)
+-- N4. UNCLEAN: a page is unclean, or a group is open.
+unfoldable pub is-unclean : List Page → Bool
+is-unclean ps = not (eqb (count (unclean (base (states ps))) (states ps)) 0) || open-group ps
+
+-- N9. GROUP: of a group, the edition has none, or it is not of 1 to 8 settings, or an address repeats.
+unfoldable pub wrong-group : (edition : ℕ) → Change → Bool
+wrong-group edition (single a v) = false
+wrong-group edition (group rs) =
+    not (has-groups edition) || (eqb (length rs) 0 || (ltb 8 (length rs) || repeats (map address-of rs)))
 
 -- N5. ADDRESS: 65,535, the greatest that a caller can name.
 unfoldable pub wrong-address : ℕ → Bool
 wrong-address a = leb 65535 a
 
--- N6. NO ROOM: the address isn't held, and 192 others are.
+unfoldable pub a-wrong-address : List Setting → Bool
+a-wrong-address [] = false
+a-wrong-address (setting a v ∷ rs) = wrong-address a || a-wrong-address rs
+
+-- N6. NO ROOM: with the addresses that aren't held, more than 192 would be.
 unfoldable pub is-held : Option ℕ → Bool
 is-held none = false
 is-held (some v) = true
 
-unfoldable pub no-room : (address : ℕ) → List Page → Bool
-no-room a ps = not (is-held (value a ps)) && leb held-limit (held ps)
+unfoldable pub is-new : List Page → Setting → Bool
+is-new ps (setting a v) = not (is-held (value a ps))
 
--- N7. ORDER END: there is no free slot, and the active order is the last.
-unfoldable pub order-end : List Page → Bool
-order-end ps = not (has-free-slot ps) && eqb (active-order (states ps)) order-limit
+unfoldable pub no-room : List Setting → List Page → Bool
+no-room rs ps = ltb held-limit (held ps + count (is-new ps) rs)
+
+-- N7. ORDER END: there are too few free slots, and the active order is the last.
+unfoldable pub order-end : (slots : ℕ) → List Page → Bool
+order-end n ps = not (has-room n ps) && eqb (active-order (states ps)) order-limit
 
 -- A row of the table: its number, and whether it is to be given.
 pub data Row : Type 0 where
@@ -135,24 +178,26 @@ blank-read-rows f a i = store-rows f i ++ (row ADDRESS (wrong-address a) ∷ [])
 unfoldable pub read-rows : (form : Form) (address : ℕ) → List ℕ → List Row
 read-rows f a i = blank-read-rows f a i ++ (row NOT-HELD (not (is-held (value a (pages f i)))) ∷ [])
 
--- Write gives 1 to 7. N23. The held value: it is not tested for 6 and 7, so a row of OK ends the table there.
-abbrev pub write-only-rows : (address value : ℕ) → List Page → List Row
-write-only-rows a v ps =
-    row UNCLEAN (is-unclean (states ps))
-    ∷ row ADDRESS (wrong-address a)
-    ∷ row OK (is-value (value a ps) v)
-    ∷ row NO-ROOM (no-room a ps)
-    ∷ row ORDER-END (order-end ps)
+-- Write gives 1 to 7, of a group also 9, behind 4. N23. The held value: it is not tested for 6 and 7, so a row of OK ends the table
+-- there.
+abbrev pub write-only-rows : (edition : ℕ) → Change → List Page → List Row
+write-only-rows edition c ps =
+    row UNCLEAN (is-unclean ps)
+    ∷ row GROUP (wrong-group edition c)
+    ∷ row ADDRESS (a-wrong-address (settings-of c))
+    ∷ row OK (all-values (settings-of c) ps)
+    ∷ row NO-ROOM (no-room (settings-of c) ps)
+    ∷ row ORDER-END (order-end (length (words-of c)) ps)
     ∷ []
 
-unfoldable pub write-rows : (form : Form) (address value : ℕ) → List ℕ → List Row
-write-rows f a v i = store-rows f i ++ write-only-rows a v (pages f i)
+unfoldable pub write-rows : (form : Form) → Change → List ℕ → List Row
+write-rows f c i = store-rows f i ++ write-only-rows (f .edition) c (pages f i)
 
 unfoldable pub store-number : (form : Form) → List ℕ → ℕ
 store-number f i = first-of (store-rows f i)
 
-unfoldable pub write-number : (form : Form) (address value : ℕ) → List ℕ → ℕ
-write-number f a v i = first-of (write-rows f a v i)
+unfoldable pub write-number : (form : Form) → Change → List ℕ → ℕ
+write-number f c i = first-of (write-rows f c i)
 
 unfoldable pub blank-read-number : (form : Form) (address : ℕ) → List ℕ → ℕ
 blank-read-number f a i = first-of (blank-read-rows f a i)
@@ -196,11 +241,22 @@ stepped f number n ss i =
     (record { number = number; steps = length (take n ss); finished = leb (length ss) n; image = run (size f) (take n ss) i })
     (record { number = number; steps = 0; finished = false; image = i })
 
+-- C1. The settings that lent bytes are: three for each, its address, low byte first, and its value. The group that they are: of no
+-- settings if 3 does not divide their number.
+unfoldable pub triples : List ℕ → List Setting
+triples [] = []
+triples (a ∷ []) = []
+triples (a ∷ b ∷ []) = []
+triples (a ∷ b ∷ v ∷ bytes) = setting (a + 256 * b) v ∷ triples bytes
+
+unfoldable pub group-of : List ℕ → Change
+group-of bytes = group (cond (eqb (length bytes % 3) 0) (triples bytes) [])
+
 unfoldable pub recover : (form : Form) (allowance : ℕ) → List ℕ → Stepped
 recover f n i = stepped f (store-number f i) n (recovery-steps (f .edition) (pages f i)) i
 
-unfoldable pub write : (form : Form) (address value allowance : ℕ) → List ℕ → Stepped
-write f a v n i = stepped f (write-number f a v i) n (write-steps (f .edition) a v (pages f i)) i
+unfoldable pub write : (form : Form) → Change → (allowance : ℕ) → List ℕ → Stepped
+write f c n i = stepped f (write-number f c i) n (write-steps (f .edition) c (pages f i)) i
 
 -- a reading: refused, it has value 0
 unfoldable pub reading : (number value : ℕ) → Reading

@@ -4,9 +4,10 @@ use mathlib.Core.Bool.{Bool, true, false, cond}
 use mathlib.Core.List.{List, [], _∷_, _++_, map}
 use lib.ListN.{length}
 use lib.Dec.{ltb}
-use Rattle.rules.specs.Word.{Condition, Sound, Blank, HalfWritten, Spoiled, slot-condition}
+use Rattle.rules.specs.Word.{Condition, Sound, Blank, HalfWritten, Spoiled, Slot, recorded, opens, closes, neither, slot}
 use Rattle.rules.specs.Page.{Form, Page}
 use Rattle.rules.specs.Store.{states, base, used, is-cleared, active-order, used-pages, each, count, Setting, setting}
+use Rattle.rules.specs.Store.{Place, outside, inside, lost, behind}
 use Rattle.rules.specs.Store.{settings, held}
 use Rattle.rules.specs.Call.{store-number, accepted, pages}
 
@@ -62,9 +63,22 @@ is-spoiled Blank = false
 is-spoiled HalfWritten = false
 is-spoiled Spoiled = true
 
+-- what a slot counts for: a record and a mark are sound, but an opening inside a group is spoiled
+unfoldable pub condition-at : Place → Slot → Condition
+condition-at at (recorded a v) = Sound
+condition-at outside (opens n) = Sound
+condition-at (inside n rs) (opens m) = Spoiled
+condition-at lost (opens m) = Spoiled
+condition-at at (closes m) = Sound
+condition-at at (neither c) = c
+
+unfoldable pub conditions : Place → List Slot → List Condition
+conditions at [] = []
+conditions at (s ∷ ss) = condition-at at s ∷ conditions (behind at s) ss
+
 -- the conditions of the slots of a page, and of those of the used pages
 abbrev pub conditions-in : Page → List Condition
-conditions-in p = map slot-condition (p .slots)
+conditions-in p = conditions outside (map (slot (p .edition)) (p .slots))
 
 unfoldable pub used-conditions : List Page → List Condition
 used-conditions ps = each conditions-in (used-pages (base (states ps)) ps)

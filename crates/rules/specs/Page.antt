@@ -19,6 +19,15 @@ word-count f = suc (suc (suc (f .slot-count)))
 abbrev pub size : Form → ℕ
 size f = 4 * word-count f
 
+-- P1. Chip: how many slots its pages have, and the first and the last edition that they may be of. The form of its pages in an edition.
+pub record Chip : Type 0 where
+  pub slot-count : ℕ
+  pub first : ℕ
+  pub last : ℕ
+
+abbrev pub in-edition : Chip → (edition : ℕ) → Form
+in-edition c e = record { slot-count = c .slot-count; edition = e }
+
 abbrev pub blank-word : Word
 blank-word = word 255 255 255 255
 
@@ -93,11 +102,12 @@ state-by p (some wear) = state-after-wear p wear
 unfoldable pub state : (edition : ℕ) → List Word → State
 state edition p = state-by p (wear-in edition p)
 
--- what the store knows of a page
+-- what the store knows of a page, and by which edition its slots are read
 pub record Page : Type 0 where
   pub state : State
   pub wear : Option ℕ
+  pub edition : ℕ
   pub slots : List Word
 
 unfoldable pub page : (edition : ℕ) → List Word → Page
-page edition p = record { state = state edition p; wear = wear-in edition p; slots = slots p }
+page edition p = record { state = state edition p; wear = wear-in edition p; edition = edition; slots = slots p }

@@ -5,7 +5,7 @@ use mathlib.Core.List.{List, [], _∷_, _++_, map}
 use mathlib.Core.Option.{Option, none, some}
 use lib.ListN.{length, getD}
 use lib.Dec.{eqb, leb, ltb}
-use Rattle.rules.specs.Word.{Word, low16, third, blank, Condition, Sound, Blank, HalfWritten, Spoiled, slot-condition}
+use Rattle.rules.specs.Word.{Word, blank, Slot, recorded, opens, closes, neither, slot}
 use Rattle.rules.specs.Page.{State, cleared, open₁, open₂, receiving, bad, Page}
 
 unfoldable pub states : List Page → List State
@@ -111,16 +111,55 @@ address-of (setting a v) = a
 abbrev pub value-of : Setting → ℕ
 value-of (setting a v) = v
 
--- S5. The records that count: of a page, in slot order.
-unfoldable pub add-record : Condition → Word → List Setting → List Setting
-add-record Sound w rs = setting (low16 w) (third w) ∷ rs
-add-record Blank w rs = rs
-add-record HalfWritten w rs = rs
-add-record Spoiled w rs = rs
+-- S11. Group. Where a slot stands: outside a group; inside one of that number, with nothing but these records between it and the opening; or
+-- inside one that has something else there, and so is lost.
+pub data Place : Type 0 where
+  outside : Place
+  inside : (number : ℕ) → List Setting → Place
+  lost : Place
 
-unfoldable pub records : List Word → List Setting
-records [] = []
-records (w ∷ ws) = add-record (slot-condition w) w (records ws)
+-- All behind an opening is in its group until a mark that closes: where the next slot stands.
+unfoldable pub behind : Place → Slot → Place
+behind outside (recorded a v) = outside
+behind outside (opens n) = inside n []
+behind outside (closes n) = outside
+behind outside (neither c) = outside
+behind (inside n rs) (recorded a v) = inside n (rs ++ setting a v ∷ [])
+behind (inside n rs) (opens m) = lost
+behind (inside n rs) (closes m) = outside
+behind (inside n rs) (neither c) = lost
+behind lost (recorded a v) = lost
+behind lost (opens m) = lost
+behind lost (closes m) = outside
+behind lost (neither c) = lost
+
+-- S12. The records of a group count if it is closed with its own number and that is how many they are: what counts by a slot.
+unfoldable pub closed : (number closing : ℕ) → List Setting → List Setting
+closed n m rs = cond (eqb m n && eqb (length rs) n) rs []
+
+unfoldable pub counted : Place → Slot → List Setting
+counted outside (recorded a v) = setting a v ∷ []
+counted outside (opens n) = []
+counted outside (closes n) = []
+counted outside (neither c) = []
+counted (inside n rs) (recorded a v) = []
+counted (inside n rs) (opens m) = []
+counted (inside n rs) (closes m) = closed n m rs
+counted (inside n rs) (neither c) = []
+counted lost s = []
+
+-- S5. The records that count: of slots from a place on, in slot order. Where the slot behind them stands.
+unfoldable pub scan : Place → List Slot → List Setting
+scan at [] = []
+scan at (s ∷ ss) = counted at s ++ scan (behind at s) ss
+
+unfoldable pub place-behind : Place → List Slot → Place
+place-behind at [] = at
+place-behind at (s ∷ ss) = place-behind (behind at s) ss
+
+-- of the slots of a page
+unfoldable pub records : (edition : ℕ) → List Word → List Setting
+records edition ws = scan outside (map (slot edition) ws)
 
 -- what a function gives of each thing in a list, one after the other
 unfoldable pub each : {A B : Type 0} → (A → List B) → List A → List B
@@ -129,7 +168,7 @@ each of (x ∷ xs) = of x ++ each of xs
 
 -- the records of a page, and of several pages
 abbrev pub records-in : Page → List Setting
-records-in p = records (p .slots)
+records-in p = records (p .edition) (p .slots)
 
 abbrev pub all-records : List Page → List Setting
 all-records ps = each records-in ps
@@ -193,13 +232,32 @@ free-slot (w ∷ ws) = past (blank w) (free-slot ws)
 
 -- the page at an index, if there is one, and the slots of the active page
 abbrev pub no-page : Page
-no-page = record { state = bad; wear = none; slots = [] }
+no-page = record { state = bad; wear = none; edition = 0; slots = [] }
 
 abbrev pub page-at : (index : ℕ) → List Page → Page
 page-at k ps = getD ps k no-page
 
+unfoldable pub active-page : List Page → Page
+active-page ps = page-at (active-index (states ps)) ps
+
 unfoldable pub active-slots : List Page → List Word
-active-slots ps = page-at (active-index (states ps)) ps .slots
+active-slots ps = active-page ps .slots
+
+-- how many slots the active page has from its free one on: so many at least
+unfoldable pub has-room : (slots : ℕ) → List Page → Bool
+has-room n ps = leb (free-slot (active-slots ps) + n) (length (active-slots ps))
+
+-- S13. Open group: the free slot of the active page stands in a group. Those behind the free slot are blank and do not end one.
+unfoldable pub in-group : Place → Bool
+in-group outside = false
+in-group (inside n rs) = true
+in-group lost = true
+
+abbrev pub end-of : Page → Place
+end-of p = place-behind outside (map (slot (p .edition)) (p .slots))
+
+unfoldable pub open-group : List Page → Bool
+open-group ps = has-room 1 ps && in-group (end-of (active-page ps))
 
 -- how many of a list pass a test
 unfoldable pub count : {A : Type 0} → (A → Bool) → List A → ℕ

@@ -2,7 +2,7 @@
 use Prim.Native.Nat.{ℕ, zero, suc, _+_, _-_, _*_, _/_, _%_}
 use mathlib.Core.Bool.{Bool, cond, _&&_}
 use mathlib.Core.List.{List, [], _∷_}
-use lib.Dec.{eqb}
+use lib.Dec.{eqb, leb}
 use Rattle.rules.specs.Flash.{Step, program, first, second}
 
 -- W1. Word: four bytes.
@@ -71,9 +71,32 @@ done-word order = number-word (order * 4 + 3)
 unfoldable pub record-word : (address value : ℕ) → Word
 record-word address value = checked (address % 256) (address / 256) value
 
--- W11. Address 65,535: in a slot such a word counts as spoiled.
-unfoldable pub slot-condition : Word → Condition
-slot-condition w = cond (sound w && eqb (low16 w) 65535) Spoiled (condition w)
+-- What a word is in a slot: a record, a mark, or neither, and then blank, half-written or spoiled.
+pub data Slot : Type 0 where
+  recorded : (address value : ℕ) → Slot
+  opens closes : (number : ℕ) → Slot
+  neither : Condition → Slot
+
+-- W14. Marks: the values 1 to 8 open a group of that many records, 129 to 136 close one of 128 fewer; 0 abandons, which is to close a
+-- group of no records, and there is none such. Any other value is spoiled.
+unfoldable pub mark : (value : ℕ) → Slot
+mark v = cond (eqb v 0) (closes 0) (cond (leb v 8) (opens v) (cond (leb 129 v && leb v 136) (closes (v - 128)) (neither Spoiled)))
+
+-- the editions that have groups
+unfoldable pub has-groups : (edition : ℕ) → Bool
+has-groups edition = leb 2 edition
+
+-- W11. Address 65,535: in a slot such a word is a mark, and without groups it counts as spoiled.
+unfoldable pub sound-slot : (edition : ℕ) → Word → Slot
+sound-slot edition w =
+    cond (eqb (low16 w) 65535) (cond (has-groups edition) (mark (third w)) (neither Spoiled)) (recorded (low16 w) (third w))
+
+unfoldable pub slot : (edition : ℕ) → Word → Slot
+slot edition w = cond (sound w) (sound-slot edition w) (neither (condition w))
+
+-- the mark of a value; it opens, closes or abandons
+abbrev pub mark-word : (value : ℕ) → Word
+mark-word value = record-word 65535 value
 
 -- W2. How a word is programmed: the first half, then the second.
 unfoldable pub word-steps : (page at : ℕ) → Word → List Step

@@ -3,4 +3,5 @@ pub mod Halves
 pub mod Renewing
 pub mod Picked
 pub mod Greatest
+pub mod Slots
 pub mod Copies

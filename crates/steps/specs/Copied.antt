@@ -11,5 +11,5 @@ rows xs ys zero = []
 rows xs ys (suc n) = rows xs ys n ++ (setting (getD xs n 0) (getD ys n 0) ∷ [])
 
 -- C12. the records of a move, of that table
-unfoldable pub copied : (addresses values : List ℕ) → (held address value : ℕ) → List Setting
-copied xs ys n a v = move-records a v (rows xs ys n)
+unfoldable pub copied : (addresses values : List ℕ) → (held : ℕ) → (written : List Setting) → List Setting
+copied xs ys n rs = move-records rs (rows xs ys n)

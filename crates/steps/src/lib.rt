@@ -1,14 +1,15 @@
 // Steps under an allowance: each function takes how many steps are left, does no more of its own, and gives how many are
 // left then. The image changes through the two functions of crate flash only, one call for each step.
 ghost use mathlib.Core.Path.{_≡_};
+ghost use mathlib.Core.List.{map};
 ghost use Prim.Native.Nat.{_+_, _-_, _*_, _≤_, _<_, max};
 ghost use lib.ListN.{length, take};
 ghost use Rattle.rules.specs.Flash.{AllAllowed, run};
 ghost use Rattle.rules.specs.Page.{word-count, size};
 ghost use Rattle.rules.specs.Word.{word-steps};
 ghost use Rattle.rules.specs.Store.{or-value};
-ghost use Rattle.rules.specs.Steps.{renew, renew-all, greatest-wear, copy-steps};
-ghost use Rattle.rules.specs.Call.{first-pages, page-in};
+ghost use Rattle.rules.specs.Steps.{renew, renew-all, greatest-wear, slots-steps, record-of, group, words-of};
+ghost use Rattle.rules.specs.Call.{first-pages, page-in, triples};
 ghost use Rattle.words.specs.Read.{as-word};
 ghost use Rattle.pages.specs.Read.{as-form, Lawful};
 ghost use Rattle.steps.specs.Picked.{picked-steps};
@@ -132,7 +133,64 @@ pub fn renew_picked(
     rest
 }
 
-// Copies every held address but the written one, addresses rising, to the slots of a page, then the new record.
+// Programs the records of the entries, in the order given, from a slot of a page on.
+pub fn program_records(
+    image: &mut [u8],
+    form: Form,
+    page: usize,
+    slot: usize,
+    entries: &[u8],
+    left: u16,
+) -> u16
+    requires { ⌜ Lawful form × (page < 32) × (slot ≤ 509) × (slot + length (triples (now entries)) ≤ form .slots) ⌝ }
+    requires { ⌜ AllAllowed (size (as-form form)) (take left (slots-steps page slot (map record-of (triples (now entries))))) (now image) ⌝ }
+    ensures { λ r. ⌜ r ≡ left - length (slots-steps page slot (map record-of (triples (now (entries .entry))))) ⌝ }
+    ensures { λ r. ⌜ now (image .exit) ≡ run (size (as-form form)) (take left (slots-steps page slot (map record-of (triples (now (entries .entry))))))
+        (now (image .entry)) ⌝ }
+{
+    let count = entries.len() / 3;
+    let mut rest = left;
+    let mut k = 0;
+    while k < count {
+        let w = words::record_word(
+            changes::address_at(entries, k),
+            changes::value_at(entries, k),
+        );
+        rest = program_word(image, form, page, 3 + slot + k, w, rest);
+        k += 1;
+    }
+    rest
+}
+
+// Programs a group, from a slot of a page on: the mark that opens it, the records, the mark that closes it.
+pub fn program_group(
+    image: &mut [u8],
+    form: Form,
+    page: usize,
+    slot: usize,
+    entries: &[u8],
+    left: u16,
+) -> u16
+    requires { ⌜ Lawful form × (page < 32) × (slot ≤ 509) × (slot + length (triples (now entries)) + 2 ≤ form .slots) × (length (triples (now entries)) ≤ 8) ⌝ }
+    requires { ⌜ AllAllowed (size (as-form form)) (take left (slots-steps page slot (words-of (group (triples (now entries)))))) (now image) ⌝ }
+    ensures { λ r. ⌜ r ≡ left - length (slots-steps page slot (words-of (group (triples (now (entries .entry)))))) ⌝ }
+    ensures { λ r. ⌜ now (image .exit) ≡ run (size (as-form form)) (take left (slots-steps page slot (words-of (group (triples (now (entries .entry)))))))
+        (now (image .entry)) ⌝ }
+{
+    let n = entries.len() / 3;
+    let opened = program_word(image, form, page, 3 + slot, words::mark_word(n as u8), left);
+    let rest = program_records(image, form, page, slot + 1, entries, opened);
+    program_word(
+        image,
+        form,
+        page,
+        4 + slot + n,
+        words::mark_word(128 + n as u8),
+        rest,
+    )
+}
+
+// Copies every held address but the written ones, addresses rising, to the slots of a page, then programs the new records.
 pub fn copy(
     image: &mut [u8],
     form: Form,
@@ -140,40 +198,33 @@ pub fn copy(
     addresses: [u16; HELD_MAX],
     values: [u8; HELD_MAX],
     held: usize,
-    address: u16,
-    value: u8,
+    entries: &[u8],
     left: u16,
 ) -> u16
-    requires { ⌜ Lawful form × (page < 32) × (held ≤ 192) ⌝ }
-    requires { ⌜ AllAllowed (size (as-form form)) (take left (copy-steps page 0 (copied addresses values held address value))) (now image) ⌝ }
-    ensures { λ r. ⌜ r ≡ left - length (copy-steps page 0 (copied addresses values held address value)) ⌝ }
-    ensures { λ r. ⌜ now (image .exit) ≡ run (size (as-form form)) (take left (copy-steps page 0 (copied addresses values held address value)))
-        (now (image .entry)) ⌝ }
+    requires { ⌜ Lawful form × (page < 32) × (held ≤ 192) × (length (copied addresses values held (triples (now entries))) ≤ form .slots) ⌝ }
+    requires { ⌜ AllAllowed (size (as-form form)) (take left (slots-steps page 0 (map record-of (copied addresses values held (triples (now entries))))))
+        (now image) ⌝ }
+    ensures { λ r. ⌜ r ≡ left - length (slots-steps page 0 (map record-of (copied addresses values held (triples (now (entries .entry)))))) ⌝ }
+    ensures { λ r. ⌜ now (image .exit) ≡ run (size (as-form form)) (take left (slots-steps page 0 (map record-of (copied addresses values held
+        (triples (now (entries .entry))))))) (now (image .entry)) ⌝ }
 {
     let mut rest = left;
-    let mut place = 3;
+    let mut slot = 0;
     let mut i = 0;
     while i < held {
         let a = addresses[i];
-        if a != address {
+        if !changes::names_from(entries, 0, a) {
             rest = program_word(
                 image,
                 form,
                 page,
-                place,
+                3 + slot,
                 words::record_word(a, values[i]),
                 rest,
             );
-            place += 1;
+            slot += 1;
         }
         i += 1;
     }
-    program_word(
-        image,
-        form,
-        page,
-        place,
-        words::record_word(address, value),
-        rest,
-    )
+    program_records(image, form, page, slot, entries, rest)
 }

@@ -5,7 +5,7 @@ use mathlib.Core.Bool.{not}
 use mathlib.Core.List.{List, [], _∷_}
 use lib.Dec.{ltb}
 use Rattle.rules.specs.Page.{Form}
-use Rattle.rules.specs.Store.{settings}
+use Rattle.rules.specs.Store.{settings, open-group}
 use Rattle.rules.specs.Call.{row, first-of, pages, store-number, accepted, held-limit, DAMAGED}
 use Rattle.settings.specs.Held.{Holds}
 use Rattle.survey.specs.Look.{Told}
@@ -15,10 +15,11 @@ use Rattle.store.specs.declared.Store.{Store}
 unfoldable pub with-held : (number held : ℕ) → ℕ
 with-held number held = first-of (row number (not (accepted number)) ∷ row DAMAGED (ltb held-limit held) ∷ [])
 
--- what is known of an image that is not refused: the pages, and the settings, which the table has
+-- what is known of an image that is not refused: the pages, the settings, which the table has, and whether a group is open
 pub record Holding (fm : Form) (i : List ℕ) (r : Store) (xs ys : List ℕ) : Type 0 where
   pub told : Told fm i (r .look)
   pub holds : Holds xs ys (r .held) (settings (pages fm i))
+  pub grouped : r .group ≡ open-group (pages fm i)
 
 pub record Opens (fm : Form) (i : List ℕ) (r : Store) (xs ys : List ℕ) : Type 0 where
   pub number : r .number ≡ store-number fm i

@@ -2,6 +2,7 @@
 use pages::Form;
 use pages::PAGES_MAX;
 use settings::HELD_MAX;
+use settings::Passed;
 use survey::DAMAGED;
 use survey::Look;
 use survey::OK;
@@ -9,15 +10,18 @@ ghost use mathlib.Core.Path.{_≡_};
 ghost use mathlib.Core.List.{[]};
 ghost use Prim.Native.Nat.{_+_, _*_, _≤_};
 ghost use lib.ListN.{length, take};
-ghost use Rattle.rules.specs.Store.{put-all, records};
+ghost use mathlib.Core.Bool.{_&&_};
+ghost use lib.Dec.{leb};
+ghost use Rattle.rules.specs.Store.{put-all, records, in-group};
 ghost use Rattle.rules.specs.Page.{size};
 ghost use Rattle.pages.specs.Read.{as-form, Lawful};
 ghost use Rattle.survey.specs.States.{slots-in};
 ghost use Rattle.settings.specs.Held.{Holds, Become};
-ghost use Rattle.store.specs.Gather.{gathered, Passes};
+ghost use Rattle.store.specs.Gather.{gathered, Passes, standing, Ends};
 ghost use Rattle.store.specs.Opened.{with-held, Opens};
 
-// The records of the first n slots of a page put in, the first slot first. The number held then.
+// The records that count of the first n slots of a page put in, the first slot first; and whether the slot behind them stands in a
+// group.
 fn put_page(
     image: &[u8],
     form: Form,
@@ -26,13 +30,15 @@ fn put_page(
     addresses: &mut [u16; HELD_MAX],
     values: &mut [u8; HELD_MAX],
     held: usize,
-) -> usize
+) -> Passed
     requires { ⌜ Lawful form × (page ≤ 32) × (n ≤ form .slots) × (page * size (as-form form) + size (as-form form) ≤ length (now image)) ⌝ }
-    ensures { λ r. ⌜ Become (λ t. put-all t (records (take n (slots-in (as-form form) page (now (image .entry))))))
-        (now (addresses .entry)) (now (values .entry)) held (now (addresses .exit)) (now (values .exit)) r ⌝ }
+    ensures { λ r. ⌜ Become (λ t. put-all t (records (form .edition) (take n (slots-in (as-form form) page (now (image .entry))))))
+        (now (addresses .entry)) (now (values .entry)) held (now (addresses .exit)) (now (values .exit)) (r .held) ⌝ }
+    ensures { λ r. ⌜ r .group ≡ in-group (standing (form .edition) (take n (slots-in (as-form form) page (now (image .entry))))) ⌝ }
 {
     settings::put_slots(
         survey::slots_of(image, form, page, n),
+        form.edition,
         addresses,
         values,
         held,
@@ -40,7 +46,8 @@ fn put_page(
 }
 
 // The records of the used pages put into an empty table, one page after the other, the oldest first. Those of the last page, the
-// active one, are all before its free slot. The number held then.
+// active one, are all before its free slot. The number held then, and whether that free slot stands in a
+// group.
 fn gather(
     image: &[u8],
     form: Form,
@@ -49,24 +56,28 @@ fn gather(
     free: usize,
     addresses: &mut [u16; HELD_MAX],
     values: &mut [u8; HELD_MAX],
-) -> usize
+) -> Passed
     requires { ⌜ Lawful form ⌝ }
     requires { ⌜ Passes (as-form form) (now image) (now line) used free ⌝ }
     requires { ⌜ Holds (now addresses) (now values) 0 [] ⌝ }
-    ensures { λ r. ⌜ Holds (now (addresses .exit)) (now (values .exit)) r
+    ensures { λ r. ⌜ Holds (now (addresses .exit)) (now (values .exit)) (r .held)
         (put-all [] (gathered (as-form form) (now (image .entry)) (take used (now (line .entry))))) ⌝ }
+    ensures { λ r. ⌜ Ends (as-form form) (now (image .entry)) (now (line .entry)) used (r .group) ⌝ }
 {
     let mut held = 0;
+    let mut group = false;
     let mut k = 0;
     while k < used {
         let mut n = form.slots;
         if k + 1 == used {
             n = free;
         }
-        held = put_page(image, form, line[k] as usize, n, addresses, values, held);
+        let passed = put_page(image, form, line[k] as usize, n, addresses, values, held);
+        held = passed.held;
+        group = passed.group;
         k += 1;
     }
-    held
+    Passed { held, group }
 }
 
 // The answer 0 to 3 of the pages and of the number held.
@@ -82,10 +93,21 @@ fn number_of(number: u8, held: usize) -> u8
     OK
 }
 
-// The answer 0 to 3, how many addresses are held, and the look at the pages.
+// S13. Open group: whether there is a free slot, and it stands in a group.
+fn is_open(free: usize, slots: usize, group: bool) -> bool
+    ensures { λ r. ⌜ r ≡ (leb (free + 1) slots && group) ⌝ }
+{
+    if free < slots {
+        return group;
+    }
+    false
+}
+
+// The answer 0 to 3, how many addresses are held, whether a group is open, and the look at the pages.
 pub struct Store {
     pub number: u8,
     pub held: usize,
+    pub group: bool,
     pub look: Look,
 }
 
@@ -102,10 +124,12 @@ pub fn open(
 {
     let look = survey::look_at(image, form);
     let line = look.line;
-    let held = gather(image, form, &line, look.used, look.free, addresses, values);
+    let passed = gather(image, form, &line, look.used, look.free, addresses, values);
+    let held = passed.held;
     Store {
         number: number_of(look.number, held),
         held,
+        group: is_open(look.free, form.slots, passed.group),
         look,
     }
 }

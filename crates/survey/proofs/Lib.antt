@@ -3,6 +3,7 @@ pub mod Sizes
 pub mod Arrays
 pub mod Padded
 mod States
+mod Editions
 pub mod Ranks
 pub mod Counts
 mod Greatest

@@ -9,7 +9,7 @@ use lib.Seq.{getD-take, length-take-le}
 use lib.Dec.{eqb}
 use borrow.Author.Tests.{eqb-true, eqb-false, eq-eqb, ne-eqb}
 use Rattle.rules.specs.Page.{Form, size, State, bad, Page}
-use Rattle.rules.specs.Store.{Under, states, base, used, is-open, is-cleared, used-orders, count, active-index, active-order, active-slots, page-at, free-slot}
+use Rattle.rules.specs.Store.{Under, states, base, used, is-open, is-cleared, used-orders, count, active-index, active-order, active-page, active-slots, page-at, free-slot}
 use Rattle.rules.specs.Store.{used-pages, oldest-first, each, no-page}
 use Rattle.rules.specs.Steps.{unclean}
 use Rattle.rules.specs.Call.{first-of, page-count, pages, page-in, wrong-size, no-store, repeats, all-used, OK, NO-STORE, DAMAGED}
@@ -231,7 +231,7 @@ module _ {fm : Form} {i : List ℕ} {n u : ℕ} {xs : List Code} {rs : List ℕ}
         (getD-padded (map (rank (base all)) all) (32 - length (map (rank (base all)) all)) p 0 ∙ rw is (active-rank 4194305 all some under))
 
     pub free-told : {f : ℕ} → f ≡ free-slot (slots-in fm p i) → f ≡ free-slot (active-slots (pages fm i))
-    unfolding active-slots
+    unfolding active-slots active-page
     free-told e = e ∙ ap free-slot (sym (slots-are fm p i inside) ∙ ap (λ (k : ℕ). page-at k (pages fm i) .slots) is)
 
   -- ---- the cleared pages
@@ -289,6 +289,9 @@ module _ {fm : Form} {i : List ℕ} {look : Look} (ok : pages-number fm i ≡ 0)
   -- the numbers told are those of at most 32 pages
   pub told-few : (look .count ≤ 32) × (look .used ≤ 32) × (look .cleared ≤ 32)
   told-few = let all = counted t in let n = t .counts in let m = sizes .most in (omega arith, omega arith, omega arith)
+
+  pub told-some : 0 < look .used
+  told-some = let l = some-used (states (pages fm i)) (pages-stored fm i ok) in let e = t .uses in omega arith
 
   pub line-places : (k : ℕ) → k < look .used → getD (look .line) k 0 < 32
   line-places k l = omega (arith, t .line .within k l, sizes .most)

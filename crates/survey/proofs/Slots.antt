@@ -10,7 +10,7 @@ use Rattle.rules.specs.Flash.{bytes-at}
 use Rattle.rules.specs.Word.{Word, word, words}
 use Rattle.rules.specs.Page.{Form, word-count, size, Page, page, slots}
 use Rattle.rules.specs.Store.{page-at}
-use Rattle.rules.specs.Call.{page-count, pages}
+use Rattle.rules.specs.Call.{page-count, page-in, pages}
 use Rattle.rules.proofs.Cut.{words-length, bytes-at-length, next-words}
 use Rattle.rules.proofs.Told.{page-cut}
 use Rattle.pages.proofs.Header.{slots-at as slots-behind}
@@ -18,9 +18,13 @@ use Rattle.survey.specs.States.{slots-in}
 
 -- ---- in the store
 
+pub page-is : (fm : Form) (k : ℕ) (i : List ℕ) → k < page-count fm i → page-at k (pages fm i) ≡ page-in fm k i
+unfolding pages
+page-is fm k i l = page-cut fm (page-count fm i) k i l
+
 pub slots-are : (fm : Form) (k : ℕ) (i : List ℕ) → k < page-count fm i → page-at k (pages fm i) .slots ≡ slots-in fm k i
-unfolding pages slots-in
-slots-are fm k i l = ap (λ (p : Page). p .slots) (page-cut fm (page-count fm i) k i l)
+unfolding slots-in
+slots-are fm k i l = ap (λ (p : Page). p .slots) (page-is fm k i l)
 
 pub slots-many : (fm : Form) (k : ℕ) (i : List ℕ) → k * size fm + size fm ≤ length i → length (slots-in fm k i) ≡ fm .slot-count
 unfolding slots-in page slots

@@ -2,9 +2,10 @@
 ghost use mathlib.Core.Path.{_≡_};
 ghost use Prim.Native.Nat.{_+_, _≤_, _<_};
 ghost use lib.ListN.{length};
-ghost use Rattle.rules.specs.Word.{zeros, check, sound, blank, second-blank, slot-condition, low16, low24};
-ghost use Rattle.rules.specs.Word.{checked, wear-word, number-word, opening-word, done-word, record-word};
-ghost use Rattle.words.specs.Read.{as-word, as-condition, word-in};
+ghost use mathlib.Core.Bool.{false};
+ghost use Rattle.rules.specs.Word.{Word as Bytes, zeros, check, sound, blank, second-blank, low16, low24, mark, slot};
+ghost use Rattle.rules.specs.Word.{checked, wear-word, number-word, opening-word, done-word, record-word, mark-word};
+ghost use Rattle.words.specs.Read.{as-word, as-slot, word-in};
 
 // W11. No record has this address.
 pub const NO_ADDRESS: u16 = 65535;
@@ -100,6 +101,12 @@ pub fn record_word(address: u16, value: u8) -> Word
     checked((address % 256) as u8, (address / 256) as u8, value)
 }
 
+pub fn mark_word(value: u8) -> Word
+    ensures { λ r. ⌜ as-word r ≡ mark-word value ⌝ }
+{
+    record_word(NO_ADDRESS, value)
+}
+
 pub fn wear_word(edition: u8, wear: u16) -> Word
     ensures { λ r. ⌜ as-word r ≡ wear-word edition wear ⌝ }
 {
@@ -139,30 +146,64 @@ pub fn low24(w: Word) -> u32
     w.a as u32 + 256 * (w.b as u32) + 65536 * (w.c as u32)
 }
 
-// The four kinds of word.
-pub enum Condition {
-    Sound,
+// What a word is in a slot: a record, a mark that opens or closes a group of so many records, or neither.
+pub enum Slot {
+    Record,
+    Opens(u8),
+    Closes(u8),
     Blank,
     HalfWritten,
     Spoiled,
 }
 
-// Which kind a word in a slot is: no other code tells them apart. The cheap test comes first: a word without an address is blank
-// there, or spoiled.
-pub fn slot_condition(w: Word) -> Condition
-    ensures { λ r. ⌜ as-condition r ≡ slot-condition (as-word w) ⌝ }
+// W14. Marks: what a sound word without an address is, by its value.
+fn mark(value: u8) -> Slot
+    ensures { λ r. ⌜ ((w : Bytes) → as-slot w r ≡ mark value) ⌝ }
+{
+    if value == 0 {
+        return Slot::Closes(0);
+    }
+    if value <= 8 {
+        return Slot::Opens(value);
+    }
+    if value < 129 {
+        return Slot::Spoiled;
+    }
+    if 136 < value {
+        return Slot::Spoiled;
+    }
+    Slot::Closes(value - 128)
+}
+
+// What a word without an address is, which is not blank: a mark, if the edition has groups.
+fn without_address(w: Word, edition: u8) -> Slot
+    requires { ⌜ (low16 (as-word w) ≡ 65535) × (blank (as-word w) ≡ false) ⌝ }
+    ensures { λ r. ⌜ as-slot (as-word w) r ≡ slot edition (as-word w) ⌝ }
+{
+    if edition < 2 {
+        return Slot::Spoiled;
+    }
+    if is_sound(w) {
+        return mark(w.c);
+    }
+    Slot::Spoiled
+}
+
+// What a word is in a slot of a page of that edition: no other code tells them apart. The cheap test comes first.
+pub fn in_slot(w: Word, edition: u8) -> Slot
+    ensures { λ r. ⌜ as-slot (as-word w) r ≡ slot edition (as-word w) ⌝ }
 {
     if low16(w) == NO_ADDRESS {
         if is_blank(w) {
-            return Condition::Blank;
+            return Slot::Blank;
         }
-        return Condition::Spoiled;
+        return without_address(w, edition);
     }
     if is_sound(w) {
-        return Condition::Sound;
+        return Slot::Record;
     }
     if is_second_blank(w) {
-        return Condition::HalfWritten;
+        return Slot::HalfWritten;
     }
-    Condition::Spoiled
+    Slot::Spoiled
 }

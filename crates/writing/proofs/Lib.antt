@@ -2,6 +2,8 @@
 mod Formatting
 mod Picks
 mod Parts
+mod Changes
+mod Kept
 mod Recovering
 mod Moving
 pub mod Ways

@@ -1,13 +1,16 @@
 -- Parts of a plan, one after the other under one allowance. Assumes nothing.
-use Prim.Native.Nat.{ℕ, _-_, min}
+use Prim.Native.Nat.{ℕ, _+_, _-_, min}
 use mathlib.Core.Path.{_≡_, sym, ap, _∙_, subst}
-use mathlib.Core.List.{List, _++_}
+use mathlib.Core.Bool.{Bool, true, false, cond}
+use mathlib.Core.List.{List, [], _∷_, _++_, append-nil}
 use native.Mathlib.Omega.{arith}
 use lib.ListN.{length, take, length-append}
+use lib.Seq.{take-nil}
 use lib.Dec.{leb}
 use Rattle.rules.specs.Flash.{Step, run, AllAllowed}
 use Rattle.rules.specs.Page.{Form, size}
 use Rattle.rules.specs.Word.{Word, word-steps}
+use Rattle.rules.specs.Steps.{slots-steps}
 use Rattle.rules.proofs.Lengths.{word-length}
 use Rattle.rules.proofs.Plans.{allowed-cut, cut-run}
 use Rattle.writing.specs.declared.Stepped.{Stepped}
@@ -21,6 +24,27 @@ word-part fm p k {n} {r} {v} {w} {i} {j} m l e =
       image = e ∙ ap (λ (x : Word). run (size fm) (take n (word-steps p k x)) i) m;
       left = l ∙ ap (λ (x : ℕ). n - x) (sym (word-length p k w));
     }
+
+-- a mark in a slot, or none
+module _ (fm : Form) (p k n : ℕ) (w : Word) (i : List ℕ) {group : Bool} where
+  pub mark-ready : group ≡ true → AllAllowed (size fm) (take n (cond group (slots-steps p k (w ∷ [])) [])) i
+      → AllAllowed (size fm) (take n (word-steps p (3 + k) w)) i
+  unfolding slots-steps
+  mark-ready g h =
+      subst (λ (ss : List Step). AllAllowed (size fm) (take n ss) i) (append-nil (word-steps p (3 + k) w))
+      (subst (λ (b : Bool). AllAllowed (size fm) (take n (cond b (slots-steps p k (w ∷ [])) [])) i) g h)
+
+  pub mark-part : {r : ℕ} {j : List ℕ} → group ≡ true → Part fm n (word-steps p (3 + k) w) i j r
+      → Part fm n (cond group (slots-steps p k (w ∷ [])) []) i j r
+  unfolding slots-steps
+  mark-part {r} {j} g h =
+      subst (λ (b : Bool). Part fm n (cond b (slots-steps p k (w ∷ [])) []) i j r) (sym g)
+      (subst (λ (ss : List Step). Part fm n ss i j r) (sym (append-nil (word-steps p (3 + k) w))) h)
+
+  pub no-part : group ≡ false → Part fm n (cond group (slots-steps p k (w ∷ [])) []) i i n
+  unfolding run
+  no-part g =
+      subst (λ (b : Bool). Part fm n (cond b (slots-steps p k (w ∷ [])) []) i i n) (sym g) (record { image = rw take-nil; left = omega arith })
 
 module _ {fm : Form} {n r : ℕ} {xs : List Step} {i j : List ℕ} (p : Part fm n xs i j r) where
   -- what comes behind it may be done with what it left of the allowance

@@ -1,13 +1,16 @@
 -- What it is to do steps under an allowance: a part of them, and all that a call has.
 use Prim.Native.Nat.{ℕ, _-_, _≤_, min}
 use mathlib.Core.Path.{_≡_}
-use mathlib.Core.List.{List}
+use mathlib.Core.Bool.{Bool, false}
+use mathlib.Core.List.{List, map}
 use lib.ListN.{length, take}
 use lib.Dec.{leb}
 use Rattle.rules.specs.Flash.{Step, run}
-use Rattle.rules.specs.Page.{Form, size}
-use Rattle.rules.specs.Store.{Setting, Rising}
+use Rattle.rules.specs.Page.{Form, size, Page}
+use Rattle.rules.specs.Store.{Setting, address-of, settings}
+use Rattle.rules.specs.Call.{wrong-group, a-wrong-address, repeats, no-room}
 use Rattle.settings.specs.Held.{Holds}
+use Rattle.choosing.specs.Way.{change-of, Lent}
 use Rattle.writing.specs.declared.Stepped.{Stepped}
 
 -- of an allowance n the steps were done as far as it went, and r is left of it
@@ -22,9 +25,16 @@ pub record Does (fm : Form) (allowance : ℕ) (ss : List Step) (i : List ℕ) (r
   pub finished : r .finished ≡ leb (length ss) allowance
   pub image : j ≡ run (size fm) (take allowance ss) i
 
--- arrays that hold a table of settings, addresses rising
-pub record Tabled (xs ys : List ℕ) (held : ℕ) : Type 0 where
-  pub table : List Setting
-  pub rising : Rising table
-  pub few : length table ≤ 192
-  pub holds : Holds xs ys held table
+-- bytes that are a change which no test of GROUP refuses
+pub record Right (edition : ℕ) (marks : Bool) (bytes : List ℕ) : Type 0 where
+  pub lent : Lent marks bytes
+  pub grouped : wrong-group edition (change-of marks bytes) ≡ false
+
+-- arrays that hold the settings of a store, into which those written are lawful, and there is room for them
+pub record Tabled (xs ys : List ℕ) (held : ℕ) (written : List Setting) : Type 0 where
+  pub pages : List Page
+  pub few : length (settings pages) ≤ 192
+  pub holds : Holds xs ys held (settings pages)
+  pub addressed : a-wrong-address written ≡ false
+  pub distinct : repeats (map address-of written) ≡ false
+  pub room : no-room written pages ≡ false

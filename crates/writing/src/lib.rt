@@ -1,28 +1,30 @@
-// The calls that change the image: format, recovery and write. An image of any length and content is lawful. It changes
+// The calls that change the image: format, recovery, write and group write. An image of any length and content is lawful. It changes
 // through the two functions of crate flash only, one call for each step, in the order of the rules.
 use choosing::Way;
 use pages::Form;
 use pages::PAGES_MAX;
 use settings::HELD_MAX;
-use settings::Held;
 use settings::NO_ADDRESS;
 use settings::NO_VALUE;
 use survey::OK;
 use survey::SIZE;
 ghost use mathlib.Core.Path.{_≡_};
-ghost use mathlib.Core.Bool.{false};
+ghost use mathlib.Core.Bool.{true, false, cond};
+ghost use mathlib.Core.List.{[], _∷_};
 ghost use Prim.Native.Nat.{_+_, _*_, _≤_, _<_, min};
 ghost use lib.Dec.{leb};
 ghost use lib.ListN.{length, take};
 ghost use Rattle.rules.specs.Flash.{AllAllowed};
-ghost use Rattle.rules.specs.Steps.{append-steps, open-steps, but, fill-steps, other, move-steps};
-ghost use Rattle.rules.specs.Call.{first-pages, format, recover, write};
+ghost use Rattle.rules.specs.Word.{mark-word};
+ghost use Rattle.rules.specs.Steps.{slots-steps, single, words-of, append-steps, open-steps, fill-steps, other, move-steps};
+ghost use Rattle.rules.specs.Call.{first-pages, format, recover, write, triples, group-of};
 ghost use Rattle.rules.specs.Page.{size};
 ghost use Rattle.pages.specs.Read.{as-form, Lawful};
-ghost use Rattle.steps.specs.Copied.{rows, copied};
+ghost use Rattle.steps.specs.Copied.{copied};
+ghost use Rattle.choosing.specs.Way.{change-of, Lent};
 ghost use Rattle.writing.specs.Answers.{as-stepped};
 ghost use Rattle.writing.specs.Picks.{picked, neither, neither-at};
-ghost use Rattle.writing.specs.Plans.{Part, Does, Tabled};
+ghost use Rattle.writing.specs.Plans.{Part, Does, Tabled, Right};
 
 #[repr(C)]
 pub struct Stepped {
@@ -116,7 +118,30 @@ fn others(n: usize, kept: usize) -> [bool; PAGES_MAX]
     picks
 }
 
-// The pages that are neither used nor cleared are renewed, in index order.
+// C20. Abandoning: a mark in the free slot ends the open group, if there is one.
+fn abandon(image: &mut [u8], form: Form, group: bool, page: usize, slot: usize, left: u16) -> u16
+    requires { ⌜ Lawful form × (page < 32) × (group ≡ true → slot < form .slots) ⌝ }
+    requires { ⌜ AllAllowed (size (as-form form)) (take left (cond group (slots-steps page slot (mark-word 0 ∷ [])) [])) (now image) ⌝ }
+    ensures { λ r. ⌜ Part (as-form form) left (cond group (slots-steps page slot (mark-word 0 ∷ [])) []) (now (image .entry)) (now (image .exit)) r ⌝ }
+{
+    if group {
+        return steps::program_word(image, form, page, 3 + slot, words::mark_word(0), left);
+    }
+    left
+}
+
+// How many steps recovery has: the mark, if a group is open, and those of the pages renewed.
+fn recovery_steps(group: bool, renewed: usize) -> u16
+    requires { ⌜ renewed ≤ 32 ⌝ }
+    ensures { λ r. ⌜ r ≡ cond group 2 0 + 3 * renewed ⌝ }
+{
+    if group {
+        return 2 + 3 * renewed as u16;
+    }
+    3 * renewed as u16
+}
+
+// An open group is abandoned; then the pages that are neither used nor cleared are renewed, in index order.
 pub fn recover(image: &mut [u8], form: Form, allowance: u16) -> Stepped
     requires { ⌜ Lawful form ⌝ }
     ensures { λ r. ⌜ as-stepped r (now (image .exit)) ≡ recover (as-form form) allowance (now (image .entry)) ⌝ }
@@ -131,69 +156,91 @@ pub fn recover(image: &mut [u8], form: Form, allowance: u16) -> Stepped
     let n = store.look.count;
     let renewed = n - store.look.used - store.look.cleared;
     let picks = unclean(&store.look.ranks, &store.look.spares, n);
-    steps::renew_picked(image, form, n, picks, allowance);
-    done(3 * renewed as u16, allowance)
+    let group = store.group;
+    let rest = abandon(
+        image,
+        form,
+        group,
+        store.look.active,
+        store.look.free,
+        allowance,
+    );
+    steps::renew_picked(image, form, n, picks, rest);
+    done(recovery_steps(group, renewed), allowance)
 }
 
-// The record goes into a free slot.
+// The change goes into the slots of a page, from one on: its record or, with marks, its group.
+fn program_change(
+    image: &mut [u8],
+    form: Form,
+    page: usize,
+    slot: usize,
+    entries: &[u8],
+    marks: bool,
+    left: u16,
+) -> u16
+    requires { ⌜ Lawful form × (page < 32) × Right (form .edition) marks (now entries)
+        × (slot + length (words-of (change-of marks (now entries))) ≤ form .slots) ⌝ }
+    requires { ⌜ AllAllowed (size (as-form form)) (take left (append-steps page slot (change-of marks (now entries)))) (now image) ⌝ }
+    ensures { λ r. ⌜ Part (as-form form) left (append-steps page slot (change-of marks (now (entries .entry)))) (now (image .entry)) (now (image .exit)) r ⌝ }
+{
+    if marks {
+        return steps::program_group(image, form, page, slot, entries, left);
+    }
+    steps::program_records(image, form, page, slot, entries, left)
+}
+
+// How many steps it takes to program a change.
+fn change_steps(entries: &[u8], marks: bool) -> u16
+    requires { ⌜ length (now entries) ≤ 26 ⌝ }
+    ensures { λ r. ⌜ r ≡ 2 * cond marks (length (triples (now (entries .entry))) + 2) (length (triples (now (entries .entry)))) ⌝ }
+    ensures { λ r. ⌜ r ≤ 20 ⌝ }
+{
+    2 * choosing::slots_of(entries, marks) as u16
+}
+
+// The change goes behind the last slot that is taken.
 fn append(
     image: &mut [u8],
     form: Form,
     page: usize,
     slot: usize,
-    address: u16,
-    value: u8,
+    entries: &[u8],
+    marks: bool,
     allowance: u16,
 ) -> Stepped
-    requires { ⌜ Lawful form × (page < 32) × (slot < form .slots) ⌝ }
-    requires { ⌜ AllAllowed (size (as-form form)) (take allowance (append-steps page slot address value)) (now image) ⌝ }
-    ensures { λ r. ⌜ Does (as-form form) allowance (append-steps page slot address value) (now (image .entry)) r (now (image .exit)) ⌝ }
+    requires { ⌜ Lawful form × (page < 32) × Right (form .edition) marks (now entries)
+        × (slot + length (words-of (change-of marks (now entries))) ≤ form .slots) ⌝ }
+    requires { ⌜ AllAllowed (size (as-form form)) (take allowance (append-steps page slot (change-of marks (now entries)))) (now image) ⌝ }
+    ensures { λ r. ⌜ Does (as-form form) allowance (append-steps page slot (change-of marks (now (entries .entry))))
+        (now (image .entry)) r (now (image .exit)) ⌝ }
 {
-    steps::program_word(
-        image,
-        form,
-        page,
-        3 + slot,
-        words::record_word(address, value),
-        allowance,
-    );
-    done(2, allowance)
+    program_change(image, form, page, slot, entries, marks, allowance);
+    done(change_steps(entries, marks), allowance)
 }
 
-// A cleared page is opened, and the record goes into its slot 0.
+// A cleared page is opened, and the change goes into its slots, from 0 on.
 fn open_page(
     image: &mut [u8],
     form: Form,
     page: usize,
     order: u32,
-    address: u16,
-    value: u8,
+    entries: &[u8],
+    marks: bool,
     allowance: u16,
 ) -> Stepped
-    requires { ⌜ Lawful form × (page < 32) × (order < 4194304) ⌝ }
-    requires { ⌜ AllAllowed (size (as-form form)) (take allowance (open-steps page order address value)) (now image) ⌝ }
-    ensures { λ r. ⌜ Does (as-form form) allowance (open-steps page order address value) (now (image .entry)) r (now (image .exit)) ⌝ }
+    requires { ⌜ Lawful form × (page < 32) × (order < 4194304) × Right (form .edition) marks (now entries) ⌝ }
+    requires { ⌜ AllAllowed (size (as-form form)) (take allowance (open-steps page order (change-of marks (now entries)))) (now image) ⌝ }
+    ensures { λ r. ⌜ Does (as-form form) allowance (open-steps page order (change-of marks (now (entries .entry))))
+        (now (image .entry)) r (now (image .exit)) ⌝ }
 {
-    let left = steps::program_word(
-        image,
-        form,
-        page,
-        1,
-        words::opening_word(1, order),
-        allowance,
-    );
-    steps::program_word(
-        image,
-        form,
-        page,
-        3,
-        words::record_word(address, value),
-        left,
-    );
-    done(4, allowance)
+    let opening = words::opening_word(1, order);
+    let left = steps::program_word(image, form, page, 1, opening, allowance);
+    program_change(image, form, page, 0, entries, marks, left);
+    done(2 + change_steps(entries, marks), allowance)
 }
 
-// A cleared page is opened to receive, what is held is copied to it, and its done word is programmed.
+// A cleared page is opened to receive, what is held is copied to it with the new records, and its done word is programmed.
 fn fill<'a>(
     image: &mut [u8],
     form: Form,
@@ -202,17 +249,19 @@ fn fill<'a>(
     addresses: &'a [u16; HELD_MAX],
     values: &'a [u8; HELD_MAX],
     held: usize,
-    address: u16,
-    value: u8,
+    entries: &[u8],
     left: u16,
 ) -> u16
-    requires { ⌜ Lawful form × (page < 32) × (order < 4194304) × (held ≤ 192) ⌝ }
-    requires { ⌜ AllAllowed (size (as-form form)) (take left (fill-steps page order (copied (now addresses) (now values) held address value)))
+    requires { ⌜ Lawful form × (page < 32) × (order < 4194304) × (held ≤ 192)
+        × (length (copied (now addresses) (now values) held (triples (now entries))) ≤ form .slots) ⌝ }
+    requires { ⌜ AllAllowed (size (as-form form)) (take left (fill-steps page order (copied (now addresses) (now values) held (triples (now entries)))))
         (now image) ⌝ }
-    ensures { λ r. ⌜ Part (as-form form) left (fill-steps page order (copied (now (addresses .entry)) (now (values .entry)) held address value))
+    ensures { λ r. ⌜ Part (as-form form) left
+        (fill-steps page order (copied (now (addresses .entry)) (now (values .entry)) held (triples (now (entries .entry)))))
         (now (image .entry)) (now (image .exit)) r ⌝ }
 {
-    let opened = steps::program_word(image, form, page, 1, words::opening_word(2, order), left);
+    let opening = words::opening_word(2, order);
+    let opened = steps::program_word(image, form, page, 1, opening, left);
     let rest = steps::copy(
         image,
         form,
@@ -220,29 +269,25 @@ fn fill<'a>(
         *addresses,
         *values,
         held,
-        address,
-        value,
+        entries,
         opened,
     );
     steps::program_word(image, form, page, 2, words::done_word(order), rest)
 }
 
-// How many records a move copies.
+// How many records a move has: all that is held then.
 fn copy_count<'a>(
     addresses: &'a [u16; HELD_MAX],
     values: &'a [u8; HELD_MAX],
     held: usize,
-    address: u16,
+    entries: &[u8],
 ) -> u16
-    requires { ⌜ (held ≤ 192) × (address < 65535) ⌝ }
-    requires { ⌜ Tabled (now addresses) (now values) held ⌝ }
-    ensures { λ r. ⌜ r ≡ length (but address (rows (now (addresses .entry)) (now (values .entry)) held)) + 1 ⌝ }
-    ensures { λ r. ⌜ r ≤ 193 ⌝ }
+    requires { ⌜ (held ≤ 192) × (length (now entries) ≤ 26) ⌝ }
+    requires { ⌜ Tabled (now addresses) (now values) held (triples (now entries)) ⌝ }
+    ensures { λ r. ⌜ r ≡ length (copied (now (addresses .entry)) (now (values .entry)) held (triples (now (entries .entry)))) ⌝ }
+    ensures { λ r. ⌜ r ≤ 192 ⌝ }
 {
-    match settings::value_in(addresses, values, address) {
-        Held::Value(_) => held as u16,
-        Held::Nothing => held as u16 + 1,
-    }
+    (held + choosing::told_of(addresses, values, entries).new) as u16
 }
 
 // The last cleared page receives all that is held, and the other pages are renewed.
@@ -255,20 +300,20 @@ fn move_to<'a>(
     addresses: &'a [u16; HELD_MAX],
     values: &'a [u8; HELD_MAX],
     held: usize,
-    address: u16,
-    value: u8,
+    entries: &[u8],
     allowance: u16,
 ) -> Stepped
-    requires { ⌜ Lawful form × (page < n) × (n ≤ 32) × (length (now image) ≡ n * size (as-form form)) × (order < 4194304) × (held ≤ 192) × (address < 65535) ⌝ }
-    requires { ⌜ Tabled (now addresses) (now values) held ⌝ }
-    requires { ⌜ AllAllowed (size (as-form form)) (take allowance (fill-steps page order (copied (now addresses) (now values) held address value)))
+    requires { ⌜ Lawful form × (page < n) × (n ≤ 32) × (length (now image) ≡ n * size (as-form form)) × (order < 4194304) × (held ≤ 192)
+        × (length (now entries) ≤ 26) ⌝ }
+    requires { ⌜ Tabled (now addresses) (now values) held (triples (now entries)) ⌝ }
+    requires { ⌜ AllAllowed (size (as-form form)) (take allowance (fill-steps page order (copied (now addresses) (now values) held (triples (now entries)))))
         (now image) ⌝ }
     ensures { λ r. ⌜ Does (as-form form) allowance
-        (move-steps (form .edition) page order (copied (now (addresses .entry)) (now (values .entry)) held address value)
+        (move-steps (form .edition) page order (copied (now (addresses .entry)) (now (values .entry)) held (triples (now (entries .entry))))
         (first-pages (as-form form) n (now (image .entry))))
         (now (image .entry)) r (now (image .exit)) ⌝ }
 {
-    let copies = copy_count(addresses, values, held, address);
+    let copies = copy_count(addresses, values, held, entries);
     let left = fill(
         image,
         form,
@@ -277,8 +322,7 @@ fn move_to<'a>(
         addresses,
         values,
         held,
-        address,
-        value,
+        entries,
         allowance,
     );
     let picks = others(n, page);
@@ -286,19 +330,19 @@ fn move_to<'a>(
     done(2 * copies + 3 * n as u16 + 1, allowance)
 }
 
-// The steps that the image at the call fixes, by one look at it.
-pub fn write(image: &mut [u8], form: Form, address: u16, value: u8, allowance: u16) -> Stepped
-    requires { ⌜ Lawful form ⌝ }
-    ensures { λ r. ⌜ as-stepped r (now (image .exit)) ≡ write (as-form form) address value allowance (now (image .entry)) ⌝ }
+// The steps of a change that the image at the call fixes, by one look at it.
+fn change(image: &mut [u8], form: Form, entries: &[u8], marks: bool, allowance: u16) -> Stepped
+    requires { ⌜ Lawful form × Lent marks (now entries) ⌝ }
+    ensures { λ r. ⌜ as-stepped r (now (image .exit)) ≡ write (as-form form) (change-of marks (now (entries .entry))) allowance (now (image .entry)) ⌝ }
 {
     let mut addresses = [NO_ADDRESS; HELD_MAX];
     let mut values = [NO_VALUE; HELD_MAX];
     let store = store::open(image, form, &mut addresses, &mut values);
-    match choosing::choose(store, form, &addresses, &values, address, value) {
+    match choosing::choose(store, form, &addresses, &values, entries, marks) {
         Way::Refuse(number) => refused(number),
         Way::Stay => done(0, allowance),
-        Way::Append(page, slot) => append(image, form, page, slot, address, value, allowance),
-        Way::Open(page, order) => open_page(image, form, page, order, address, value, allowance),
+        Way::Append(page, slot) => append(image, form, page, slot, entries, marks, allowance),
+        Way::Open(page, order) => open_page(image, form, page, order, entries, marks, allowance),
         Way::Move(page, order) => {
             let n = store.look.count;
             let held = store.held;
@@ -311,10 +355,25 @@ pub fn write(image: &mut [u8], form: Form, address: u16, value: u8, allowance: u
                 &addresses,
                 &values,
                 held,
-                address,
-                value,
+                entries,
                 allowance,
             )
         }
     }
+}
+
+// A single setting is lent as a group is, without marks.
+pub fn write(image: &mut [u8], form: Form, address: u16, value: u8, allowance: u16) -> Stepped
+    requires { ⌜ Lawful form ⌝ }
+    ensures { λ r. ⌜ as-stepped r (now (image .exit)) ≡ write (as-form form) (single address value) allowance (now (image .entry)) ⌝ }
+{
+    let entry = [(address % 256) as u8, (address / 256) as u8, value];
+    change(image, form, &entry, false, allowance)
+}
+
+pub fn write_group(image: &mut [u8], form: Form, entries: &[u8], allowance: u16) -> Stepped
+    requires { ⌜ Lawful form ⌝ }
+    ensures { λ r. ⌜ as-stepped r (now (image .exit)) ≡ write (as-form form) (group-of (now (entries .entry))) allowance (now (image .entry)) ⌝ }
+{
+    change(image, form, entries, true, allowance)
 }

@@ -1,19 +1,10 @@
--- `broken::of_slot` meets its contract: each of the four kinds counts for what it is. Assumes nothing.
-use mathlib.Core.Path.{_≡_, sym, ap, _∙_, subst}
-use mathlib.Core.List.{[], _∷_}
+-- `broken::of_slot` meets its contract. Assumes nothing.
 use borrow.Author.Needs.{needs}
-use Rattle.rules.specs.Word.{Word, Condition, slot-condition}
 use Rattle.rules.specs.Store.{count}
-use Rattle.rules.specs.Listing.{is-half, is-spoiled}
-use Rattle.words.specs.Read.{as-word, as-condition}
-use Rattle.words.specs.declared.Condition.{Condition as Answer}
-use Rattle.broken.specs.declared.Broken.{Broken}
-use Rattle.broken.specs.Counts.{Counts}
+use Rattle.rules.specs.Listing.{is-half, is-spoiled, condition-at}
+use Rattle.broken.proofs.Counting.{counts-opening}
 use Rattle.broken.proofs.of_slot.Statement.{statement}
 use Rattle.broken.proofs.of_slot.Tie as tie
-
-slot-condition-requires : tie.Need-slot-condition-requires
-slot-condition-requires c κs = search needs
 
 enum-told : tie.Need-enum-told
 enum-told c = search needs
@@ -24,50 +15,60 @@ of-requires c κs = search needs
 enum-told-2 : tie.Need-enum-told-2
 enum-told-2 c = search needs
 
-of-requires-2 : tie.Need-of-requires-2
-of-requires-2 c κs = search needs
+of-opening-requires : tie.Need-of-opening-requires
+of-opening-requires c κs = search needs
 
 enum-told-3 : tie.Need-enum-told-3
 enum-told-3 c = search needs
 
-of-requires-3 : tie.Need-of-requires-3
-of-requires-3 c κs = search needs
+of-requires-2 : tie.Need-of-requires-2
+of-requires-2 c κs = search needs
 
 enum-told-4 : tie.Need-enum-told-4
 enum-told-4 c = search needs
 
+of-requires-3 : tie.Need-of-requires-3
+of-requires-3 c κs = search needs
+
+enum-told-5 : tie.Need-enum-told-5
+enum-told-5 c = search needs
+
 of-requires-4 : tie.Need-of-requires-4
 of-requires-4 c κs = search needs
 
--- what is counted of the kind that was told is counted of the slot
-told : {r : Broken} (w : Word) {a b : Answer} → a ≡ b → as-condition a ≡ slot-condition w → Counts (as-condition b ∷ []) r → Counts (slot-condition w ∷ []) r
-told {r} w e is p = subst (λ (x : Condition). Counts (x ∷ []) r) (sym (ap as-condition e) ∙ is) p
+enum-told-6 : tie.Need-enum-told-6
+enum-told-6 c = search needs
+
+of-requires-5 : tie.Need-of-requires-5
+of-requires-5 c κs = search needs
 
 returns : tie.Need-returns
-unfolding count is-half is-spoiled
-returns c =
-    told (as-word (c .before .before .before .before .args .w)) (c .before .enum-told .given .1) (c .before .before .before .slot-condition .ensures)
-    (record { half = c .of .ensures .0; spoiled = c .of .ensures .1 })
+unfolding condition-at count is-half is-spoiled
+returns c = λ at xs w h. rw (c .before .enum-told .given .1) (record { half = c .of .ensures .0; spoiled = c .of .ensures .1 })
 
 returns-2 : tie.Need-returns-2
-unfolding count is-half is-spoiled
 returns-2 c =
-    told (as-word (c .before .before .before .before .args .w)) (c .before .enum-told2 .given .1) (c .before .before .before .slot-condition .ensures)
-    (record { half = c .of2 .ensures .0; spoiled = c .of2 .ensures .1 })
+    λ at xs w h.
+    rw (c .before .enum-told2 .given .1) (counts-opening at xs (c .before .before .before .args .place) h _ (c .of-opening .result) (c .of-opening .ensures))
 
 returns-3 : tie.Need-returns-3
-unfolding count is-half is-spoiled
-returns-3 c =
-    told (as-word (c .before .before .before .before .args .w)) (c .before .enum-told3 .given .1) (c .before .before .before .slot-condition .ensures)
-    (record { half = c .of3 .ensures .0; spoiled = c .of3 .ensures .1 })
+unfolding condition-at count is-half is-spoiled
+returns-3 c = λ at xs w h. rw (c .before .enum-told3 .given .1) (record { half = c .of2 .ensures .0; spoiled = c .of2 .ensures .1 })
 
 returns-4 : tie.Need-returns-4
-unfolding count is-half is-spoiled
-returns-4 c =
-    told (as-word (c .before .before .before .before .args .w)) (c .before .enum-told4 .given .1) (c .before .before .before .slot-condition .ensures)
-    (record { half = c .of4 .ensures .0; spoiled = c .of4 .ensures .1 })
+unfolding condition-at count is-half is-spoiled
+returns-4 c = λ at xs w h. rw (c .before .enum-told4 .given .1) (record { half = c .of3 .ensures .0; spoiled = c .of3 .ensures .1 })
+
+returns-5 : tie.Need-returns-5
+unfolding condition-at count is-half is-spoiled
+returns-5 c = λ at xs w h. rw (c .before .enum-told5 .given .1) (record { half = c .of4 .ensures .0; spoiled = c .of4 .ensures .1 })
+
+returns-6 : tie.Need-returns-6
+unfolding condition-at count is-half is-spoiled
+returns-6 c = λ at xs w h. rw (c .before .enum-told6 .given .1) (record { half = c .of5 .ensures .0; spoiled = c .of5 .ensures .1 })
 
 pub of-slot-spec : {M : Type 1} → statement M
 of-slot-spec =
-    tie.close (tie.spec slot-condition-requires enum-told of-requires enum-told-2 of-requires-2 enum-told-3 of-requires-3 enum-told-4 of-requires-4
-    returns returns-2 returns-3 returns-4)
+    tie.close
+    (tie.spec enum-told of-requires enum-told-2 of-opening-requires enum-told-3 of-requires-2 enum-told-4 of-requires-3 enum-told-5 of-requires-4
+    enum-told-6 of-requires-5 returns returns-2 returns-3 returns-4 returns-5 returns-6)

@@ -1,194 +1,226 @@
 -- `choosing::choose` meets its contract: each test is the rules', in their order, of any image that the store was opened from.
 -- Assumes nothing.
-use Prim.Native.Nat.{ℕ, _<_}
+use Prim.Native.Nat.{ℕ, _+_, _≤_, _<_}
 use mathlib.Core.Path.{_≡_, sym, ap, _∙_}
-use mathlib.Core.Logic.{⊎-elim}
-use mathlib.Core.Bool.{true, false}
+use mathlib.Core.Bool.{false, cond}
 use mathlib.Core.List.{List}
 use native.Mathlib.Omega.{arith}
 use denote.Ref.{now}
 use lib.ListN.{length}
-use borrow.Author.Tests.{eq-eqb, ne-eqb}
 use borrow.Author.Needs.{needs}
 use Rattle.rules.specs.Page.{Form}
-use Rattle.rules.specs.Store.{states, settings, value}
-use Rattle.rules.specs.Steps.{is-value}
-use Rattle.rules.specs.Call.{pages, store-number, is-unclean, no-room}
-use Rattle.rules.proofs.Answers.{write-store, write-unclean, write-last, write-same, write-full}
+use Rattle.rules.specs.Store.{Setting, settings, count}
+use Rattle.rules.specs.Steps.{Change, settings-of, words-of, all-values}
+use Rattle.rules.specs.Call.{pages, store-number, a-wrong-address, is-new, no-room, triples}
+use Rattle.rules.proofs.Answers.{write-same, write-full}
+use Rattle.changes.proofs.Entries.{length-triples}
 use Rattle.pages.specs.Read.{as-form}
-use Rattle.settings.specs.Held.{as-option}
-use Rattle.settings.specs.declared.Held.the-variants.{Value, Nothing}
 use Rattle.survey.specs.Look.{Told}
 use Rattle.store.specs.Opened.{Opens}
-use Rattle.store.proofs.Values.{store-ok, look-told, held-is, value-found}
-use Rattle.choosing.proofs.Ways.{refused, stays, room-held, room-full, room-left, used-few, some-unclean, none-unclean, appends, opens-page}
+use Rattle.store.proofs.Values.{store-ok, look-told, held-is, table-few}
+use Rattle.choosing.specs.Known.{Knows}
+use Rattle.choosing.specs.Way.{change-of, Tested, Chosen, new-page-of}
+use Rattle.choosing.specs.declared.Way.{Way}
+use Rattle.choosing.specs.declared.Way.the-variants.{Append}
+use Rattle.choosing.proofs.Ways.{change-settings, change-short, change-many, refused, stays, full, roomy, used-few, appends, opens-page}
 use Rattle.choosing.proofs.choose.Statement.{statement}
 use Rattle.choosing.proofs.choose.Tie as tie
 
 -- ---- what is known at each place, of an image i that the store was opened from
 
-abbrev From : tie.Start → List ℕ → Type 0
-From c i = Opens (as-form (c .args .form)) i (c .args .store) (now (c .args .addresses)) (now (c .args .values))
+abbrev form : tie.Start → Form
+form c = as-form (c .args .form)
 
--- the store is accepted
-module _ (c : tie.Else1) (i : List ℕ) (o : From (c .before) i) where
+abbrev change : tie.Start → Change
+change c = change-of (c .args .marks) (now (c .args .entries))
+
+abbrev From : tie.Start → List ℕ → Type 0
+From c i = Opens (form c) i (c .args .store) (now (c .args .addresses)) (now (c .args .values))
+
+-- the first tests are passed
+abbrev start : tie.Else1 → tie.Start
+start c = c .before .before .before
+
+module _ (c : tie.Else1) {i : List ℕ} (o : From (start c) i) where
   abbrev fm : Form
-  fm = as-form (c .before .args .form)
+  fm = form (start c)
+
+  abbrev ch : Change
+  ch = change (start c)
+
+  abbrev rs : List Setting
+  rs = triples (now (start c .args .entries))
+
+  of-tests : Tested fm ch rs i (c .before .first-tests .result)
+  of-tests = c .before .first-tests .ensures i _ _ o
 
   ok : store-number fm i ≡ 0
-  ok = store-ok o (c .if1 .left)
+  ok = of-tests .stored (c .if1 .left)
 
-  told : Told fm i (c .before .args .store .look)
-  told = look-told o (c .if1 .left)
+  right : start c .args .store .number ≡ 0
+  right = o .number ∙ ok
 
--- no page is unclean
-abbrev right : tie.Else2 → tie.Else1
-right c = c .before .before .before
+  told : Told fm i (start c .args .store .look)
+  told = look-told o right
 
-clean : (c : tie.Else2) (i : List ℕ) → From (right c .before) i → is-unclean (states (pages (as-form (right c .before .args .form)) i)) ≡ false
-clean c i o = none-unclean (told (right c) i o) (ok (right c) i o) (omega arith)
+  same-settings : settings-of ch ≡ rs
+  same-settings =
+      change-settings (fm .edition) (start c .args .marks) (now (start c .args .entries)) (start c .pre .1) (of-tests .grouped (c .if1 .left))
 
--- the address is one that may be written
-below : (c : tie.Else3) → right (c .before) .before .args .address < 65535
-below c =
-    let start = right (c .before) .before in
-    let ne : start .args .address ≡ 65535 → ⊥ = c .if3 .left in
-    omega (arith, start .fits .address)
+  far : a-wrong-address (settings-of ch) ≡ false
+  far = ap a-wrong-address same-settings ∙ of-tests .addressed (c .if1 .left)
 
--- what was found is the value that is held
-module _ (c : tie.After-value-in) where
-  abbrev tests : tie.Else3
-  tests = c .before
+  short : length (now (start c .args .entries)) ≤ 26
+  short = change-short (fm .edition) (start c .args .marks) (now (start c .args .entries)) (start c .pre .1) (of-tests .grouped (c .if1 .left))
 
-  abbrev start : tie.Start
-  start = right (tests .before) .before
+-- what the table told is so
+module _ (c : tie.After-told-of) {i : List ℕ} (o : From (start (c .before)) i) where
+  abbrev at : Form
+  at = fm (c .before) o
 
-  abbrev form : Form
-  form = as-form (start .args .form)
+  abbrev written : List Setting
+  written = settings-of (ch (c .before) o)
 
-  abbrev address : ℕ
-  address = start .args .address
+  knows : Knows (pages at i) (rs (c .before) o) (c .told-of .result)
+  knows =
+      let z = right (c .before) o in
+      c .told-of .ensures .0 (pages at i) (start (c .before) .args .store .held) (table-few o z) (o .holding z .holds)
+      (of-tests (c .before) o .addressed (c .before .if1 .left))
 
-  abbrev written : ℕ
-  written = start .args .value
+  same-is : all-values written (pages at i) ≡ c .told-of .result .same
+  same-is = ap (λ (qs : List Setting). all-values qs (pages at i)) (same-settings (c .before) o) ∙ sym (knows .same)
 
-  module _ (i : List ℕ) (o : From start i) where
-    found : value address (pages form i) ≡ as-option (c .value-in .result)
-    found = value-found o (right (tests .before) .if1 .left) address (below tests) (c .value-in .ensures)
+  new-is : c .told-of .result .new ≡ count (is-new (pages at i)) written
+  new-is = knows .new ∙ ap (count (is-new (pages at i))) (sym (same-settings (c .before) o))
 
-    held : start .args .store .held ≡ length (settings (pages form i))
-    held = held-is o (right (tests .before) .if1 .left)
+  stored : start (c .before) .args .store .held ≡ length (settings (pages at i))
+  stored = held-is o (right (c .before) o)
 
-    -- a new record is needed, and there is room for it
-    abbrev New : Type 0
-    New = (is-value (value address (pages form i)) written ≡ false) × (no-room address (pages form i) ≡ false)
+-- there is something new, and room for it
+module _ (t : tie.After-told-of) (one : t .told-of .result .same ≡ false) (few : start (t .before) .args .store .held + t .told-of .result .new ≤ 192)
+    {i : List ℕ} (o : From (start (t .before)) i) where
+  abbrev e : tie.Else1
+  e = t .before
 
-    another : (u : ℕ) → c .value-in .result ≡ Value u → (u ≡ written → ⊥) → New
-    unfolding is-value
-    another u e ne = let f = found ∙ ap as-option e in (rw f (ne-eqb u written ne), room-held form i address u f)
+  some-new : all-values (written t o) (pages (at t o) i) ≡ false
+  some-new = same-is t o ∙ one
 
-    nothing : c .value-in .result ≡ Nothing → start .args .store .held < 192 → New
-    unfolding is-value
-    nothing e l = let f = found ∙ ap as-option e in (rw f, room-left form i address f (start .args .store .held) held l)
+  some-room : no-room (written t o) (pages (at t o) i) ≡ false
+  some-room = roomy (written t o) (pages (at t o) i) _ _ (stored t o) (new-is t o) few
 
-new : (c : tie.At-match-came) (i : List ℕ) (o : From (start (c .before)) i) → New (c .before) i o
-new c i o =
-    ⊎-elim (λ w. another (c .before) i o (w .1 .given .0 .0) (w .1 .given .1) (w .3 .left))
-    (λ w. nothing (c .before) i o (w .1 .given .1) (w .3 .left)) (c .match .came)
+  words-many : {n : ℕ} → n ≡ cond (start e .args .marks) (length (rs e o) + 2) (length (rs e o)) → n ≡ length (words-of (ch e o))
+  words-many h =
+      h ∙ sym (change-many (fm e o .edition) (start e .args .marks) (now (start e .args .entries)) (start e .pre .1)
+      (of-tests e o .grouped (e .if1 .left)))
+
+  programmed : start e .args .store .look .free + length (words-of (ch e o)) ≤ fm e o .slot-count
+      → Chosen (fm e o) (ch e o) i (Append (start e .args .store .look .active) (start e .args .store .look .free))
+  programmed l =
+      let k = of-tests e o in
+      let z = e .if1 .left in
+      appends (told e o) (ok e o) (ch e o) (k .clean z) (k .grouped z) (far e o) some-new some-room l
+
+  opened : fm e o .slot-count < start e .args .store .look .free + length (words-of (ch e o)) → {r : Way}
+      → r ≡ new-page-of (start e .args .store .look .spares) (start e .args .store .look .cleared) (start e .args .store .look .order)
+      → Chosen (fm e o) (ch e o) i r
+  opened l =
+      let k = of-tests e o in
+      let z = e .if1 .left in
+      opens-page (told e o) (ok e o) (ch e o) (k .clean z) (k .grouped z) (far e o) some-new some-room l
 
 -- ---- the needs
+
+first-tests-requires : tie.Need-first-tests-requires
+first-tests-requires c κs =
+    let s = c .before in
+    let from = s .pre .0 in
+    (λ z. used-few (look-told (from .opens) z) (store-ok (from .opens) z), s .pre .1)
 
 returns : tie.Need-returns
 returns c =
     λ i o.
-    let a = c .before .args in
-    let ne = c .if1 .taken in
-    refused (as-form (a .form)) (a .address) (a .value) i (a .store .number) ne
-    (write-store (as-form (a .form)) (a .address) (a .value) i (λ e. ne (o .number ∙ e)) ∙ sym (o .number))
+    let s = c .before .before .before in
+    refused (form s) (change s) i (c .before .first-tests .result) (c .if1 .taken) (c .before .first-tests .ensures i _ _ o .refused (c .if1 .taken))
 
-add-if2 : tie.Need-add-if2
-add-if2 c =
-    let first = c .before in
-    let from = first .before .pre in
-    omega (arith, used-few (told first (from .image) (from .opens)) (ok first (from .image) (from .opens)))
+told-of-requires : tie.Need-told-of-requires
+told-of-requires c κs = omega (arith, short c (start c .pre .0 .opens))
 
 returns-2 : tie.Need-returns-2
 returns-2 c =
     λ i o.
-    let first = c .before .before .before in
-    let a = first .before .args in
-    let z = ok first i o in
-    refused (as-form (a .form)) (a .address) (a .value) i 4 (λ e. omega arith)
-    (write-unclean (as-form (a .form)) (a .address) (a .value) i z (some-unclean (told first i o) z (omega arith)))
+    let e = c .before .before in
+    let t = of-tests e o in
+    let z = e .if1 .left in
+    let same = same-is (c .before) o ∙ c .if2 .taken in
+    stays (fm e o) (ch e o) i (write-same (fm e o) (ch e o) i (ok e o) (t .clean z) (t .grouped z) (far e o) same) same
+
+add-if3 : tie.Need-add-if3
+add-if3 c =
+    let t = c .before .before .before in
+    let o = start (t .before) .pre .0 .opens in
+    let s = stored t o in
+    let n = t .told-of .ensures .1 in
+    let f = table-few o (right (t .before) o) in
+    let l = length-triples (now (start (t .before) .args .entries)) in
+    omega (arith, short (t .before) o)
 
 returns-3 : tie.Need-returns-3
 returns-3 c =
     λ i o.
-    let first = right (c .before) in
-    let a = first .before .args in
-    refused (as-form (a .form)) (a .address) (a .value) i 5 (λ e. omega arith)
-    (write-last (as-form (a .form)) (a .address) (a .value) i (ok first i o) (clean (c .before) i o) (c .if3 .taken))
+    let t = c .before .before .before .before in
+    let e = t .before in
+    let k = of-tests e o in
+    let z = e .if1 .left in
+    let none = full (written t o) (pages (at t o) i) _ _ (stored t o) (new-is t o) (omega arith) in
+    refused (fm e o) (ch e o) i 6 (λ n. omega arith)
+    (write-full (fm e o) (ch e o) i (ok e o) (k .clean z) (k .grouped z) (far e o) (same-is t o ∙ c .before .before .before .if2 .left) none)
 
-value-in-requires : tie.Need-value-in-requires
-value-in-requires c κs = search needs
+slots-of-requires : tie.Need-slots-of-requires
+slots-of-requires c κs = search needs
 
-enum-known-held : tie.Need-enum-known-held
-enum-known-held c = search needs
+sub-if4 : tie.Need-sub-if4
+sub-if4 c = let e = c .before .before .before .before .before .before .before .before in told e (start e .pre .0 .opens) .room
 
 returns-4 : tie.Need-returns-4
-unfolding is-value
 returns-4 c =
     λ i o.
-    let f = c .before .before .before .before in
-    let t = tests f in
-    let v = c .before .before .held .given in
-    let e = found f i o ∙ ap as-option (v .1) in
-    let same : is-value (value (address f) (pages (form f) i)) (written f) ≡ true = rw e (eq-eqb (v .0 .0) (written f) (c .if4 .taken)) in
-    stays (form f) (address f) (written f) i
-    (write-same (form f) (address f) (written f) i (ok (right (t .before)) i o) (clean (t .before) i o) (below t) same) same
-
-enum-told : tie.Need-enum-told
-enum-told c = search needs
-
-returns-5 : tie.Need-returns-5
-unfolding is-value
-returns-5 c =
-    λ i o.
-    let f = c .before .before .before .before in
-    let t = tests f in
-    let e = found f i o ∙ ap as-option (c .before .before .enum-told .given .1) in
-    let full = room-full (form f) i (address f) e (start f .args .store .held) (held f i o) (c .if5 .taken) in
-    refused (form f) (address f) (written f) i 6 (λ z. omega arith)
-    (write-full (form f) (address f) (written f) i (ok (right (t .before)) i o) (clean (t .before) i o) (below t) (rw e) full)
-
-returns-6 : tie.Need-returns-6
-returns-6 c =
-    λ i o.
-    let met = c .before .before .before in
-    let f = met .before in
-    let t = tests f in
-    let n = new met i o in
-    appends (told (right (t .before)) i o) (ok (right (t .before)) i o) (address f) (written f)
-    (clean (t .before) i o) (below t) (n .0) (n .1) (c .if6 .taken)
+    let after3 = c .before .before .before .before in
+    let t = after3 .before .before .before .before in
+    let one = after3 .before .before .before .if2 .left in
+    let few : start (t .before) .args .store .held + t .told-of .result .new ≤ 192 = omega arith in
+    let many = words-many t one few o (c .before .before .before .slots-of .ensures) in
+    let free = told (t .before) o .room in
+    programmed t one few o (omega arith)
 
 new-page-requires : tie.Need-new-page-requires
 new-page-requires c κs =
-    let first = right (tests (c .before .before .before .before .before .before) .before) in
-    let from = first .before .pre in
-    told first (from .image) (from .opens) .fits
+    let e = c .before .before .before .before .before .before .before .before .before .before .before in
+    told e (start e .pre .0 .opens) .fits
 
-returns-7 : tie.Need-returns-7
-returns-7 c =
+returns-5 : tie.Need-returns-5
+returns-5 c =
     λ i o.
-    let none = c .before .before .before in
-    let met = none .before .before .before in
-    let f = met .before in
-    let t = tests f in
-    let n = new met i o in
-    opens-page (told (right (t .before)) i o) (ok (right (t .before)) i o) (address f) (written f)
-    (clean (t .before) i o) (below t) (n .0) (n .1) (none .if6 .left) (c .new-page .ensures)
+    let after4 = c .before .before .before in
+    let after3 = after4 .before .before .before .before in
+    let t = after3 .before .before .before .before in
+    let one = after3 .before .before .before .if2 .left in
+    let few : start (t .before) .args .store .held + t .told-of .result .new ≤ 192 = omega arith in
+    let many = words-many t one few o (after4 .before .before .before .slots-of .ensures) in
+    let free = told (t .before) o .room in
+    opened t one few o (omega arith) (c .new-page .ensures)
 
 pub choose-spec : {M : Type 1} → statement M
 choose-spec =
-    tie.close (tie.spec returns add-if2 returns-2 returns-3 value-in-requires enum-known-held returns-4 enum-told returns-5 returns-6
-    new-page-requires returns-7)
+    tie.close
+    (tie.spec
+    first-tests-requires
+    returns
+    told-of-requires
+    returns-2
+    add-if3
+    returns-3
+    slots-of-requires
+    sub-if4
+    returns-4
+    new-page-requires
+    returns-5)

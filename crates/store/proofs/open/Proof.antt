@@ -11,7 +11,7 @@ use Rattle.pages.specs.Read.{as-form}
 use Rattle.survey.specs.declared.Look.{Look}
 use Rattle.survey.specs.Look.{Looks}
 use Rattle.settings.specs.Held.{Holds}
-use Rattle.store.proofs.Gathering.{passes, gathered-settings}
+use Rattle.store.proofs.Gathering.{passes, gathered-settings, group-told}
 use Rattle.store.proofs.Opening.{with-held-is, pages-ok, over-held}
 use Rattle.store.proofs.open.Statement.{statement}
 use Rattle.store.proofs.open.Tie as tie
@@ -51,25 +51,35 @@ module _ (c : tie.After-number-of) where
   values = c .before .gather .last .1 .1 .1 .1 .1 .1 .0
 
   abbrev held : ℕ
-  held = c .before .gather .result
+  held = c .before .gather .result .held
 
   holds : look .number ≡ 0 → Holds addresses values held (settings (pages form image))
   holds z =
-      subst (Holds addresses values held) (gathered-settings form image (look .line) (look .used) (looks .told z .line)) (c .before .gather .ensures)
+      subst (Holds addresses values held) (gathered-settings form image (look .line) (look .used) (looks .told z .line)) (c .before .gather .ensures .0)
 
   number : c .number-of .result ≡ store-number form image
   number =
       c .number-of .ensures
       ∙ with-held-is form image (look .number) held (looks .number) (λ z. over-held form image addresses values held (holds z))
 
+is-open-requires : tie.Need-is-open-requires
+is-open-requires c κs = search needs
+
 returns : tie.Need-returns
 returns c =
+    let n = c .before in
     record {
-      number = number c;
+      number = number n;
       holding = λ z.
-          let ok = pages-ok (form c) (image c) (look c .number) (looks c .number) (sym (number c) ∙ z) in
-          record { told = looks c .told ok; holds = holds c ok };
+          let ok = pages-ok (form n) (image n) (look n .number) (looks n .number) (sym (number n) ∙ z) in
+          let told = looks n .told ok in
+          record {
+            told = told;
+            holds = holds n ok;
+            grouped = c .is-open .ensures
+                ∙ group-told (form n) (image n) (look n) (n .before .gather .result .group) (sym (looks n .number) ∙ ok) told (n .before .gather .ensures .1);
+          };
     }
 
 pub open-spec : {M : Type 1} → statement M
-open-spec = tie.close (tie.spec look-at-requires gather-requires number-of-requires returns)
+open-spec = tie.close (tie.spec look-at-requires gather-requires number-of-requires is-open-requires returns)

@@ -1,26 +1,16 @@
 -- `writing::append` meets its contract. Assumes nothing.
-use Prim.Native.Nat.{_+_}
-use native.Mathlib.Omega.{arith}
+use mathlib.Core.Path.{sym, _∙_}
 use borrow.Author.Needs.{needs}
-use Rattle.rules.specs.Word.{record-word}
-use Rattle.rules.specs.Steps.{append-steps}
-use Rattle.pages.specs.Read.{as-form}
-use Rattle.rules.proofs.Lengths.{word-length}
-use Rattle.writing.proofs.Parts.{word-part, does}
+use Rattle.writing.proofs.Changes.{entries-few, append-long}
+use Rattle.writing.proofs.Parts.{does}
 use Rattle.writing.proofs.append.Statement.{statement}
 use Rattle.writing.proofs.append.Tie as tie
 
-add-program-word : tie.Need-add-program-word
-add-program-word c = search needs
+program-change-requires : tie.Need-program-change-requires
+program-change-requires c κs = search needs
 
-record-word-requires : tie.Need-record-word-requires
-record-word-requires c κs = search needs
-
-program-word-requires : tie.Need-program-word-requires
-unfolding append-steps
-program-word-requires c κs =
-    let start = c .before .before .before in
-    ((start .pre .0 .0, start .pre .0 .1, omega arith), rw (c .record-word .ensures) (start .pre .1))
+change-steps-requires : tie.Need-change-steps-requires
+change-steps-requires c κs = entries-few (c .before .before .before .before .before .before .pre .0 .2)
 
 done-requires : tie.Need-done-requires
 done-requires c κs = search needs
@@ -29,13 +19,11 @@ same-length : tie.Need-same-length
 same-length c = search needs
 
 returns : tie.Need-returns
-unfolding append-steps
 returns c =
-    let p = c .before .before .before in
-    let a = p .before .before .before .before .args in
-    let word = word-part (as-form (a .form)) (a .page) (3 + a .slot) (p .before .record-word .ensures) (p .program-word .ensures .0)
-    (p .program-word .ensures .1) in
-    does (word-length (a .page) (3 + a .slot) (record-word (a .address) (a .value))) word (c .done .ensures)
+    let counted = c .before in
+    let p = c .before .before .before .before in
+    let s = p .before .before .before .before in
+    does (append-long (s .pre .0 .2) (s .args .page) (s .args .slot) ∙ sym (counted .change-steps .ensures .0)) (p .program-change .ensures) (c .done .ensures)
 
 pub append-spec : {M : Type 1} → statement M
-append-spec = tie.close (tie.spec add-program-word record-word-requires program-word-requires done-requires same-length returns)
+append-spec = tie.close (tie.spec program-change-requires change-steps-requires done-requires same-length returns)

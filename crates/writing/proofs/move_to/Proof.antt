@@ -1,23 +1,28 @@
 -- `writing::move_to` meets its contract: the page is filled, and then the others are renewed. Assumes nothing.
 use mathlib.Core.List.{List}
+use native.Mathlib.Omega.{arith}
 use denote.Ref.{now}
 use borrow.Author.Needs.{needs}
 use Rattle.rules.specs.Store.{Setting}
+use Rattle.rules.specs.Call.{triples}
 use Rattle.pages.specs.Read.{as-form}
 use Rattle.steps.specs.Copied.{copied}
 use Rattle.writing.proofs.Parts.{does}
-use Rattle.writing.proofs.Moving.{copies-fit, moved, move-total}
+use Rattle.writing.proofs.Moving.{copies-few, moved, move-total}
 use Rattle.writing.proofs.move_to.Statement.{statement}
 use Rattle.writing.proofs.move_to.Tie as tie
 
 abbrev copying : tie.Start → List Setting
-copying c = let a = c .args in copied (now (a .addresses)) (now (a .values)) (a .held) (a .address) (a .value)
+copying c = let a = c .args in copied (now (a .addresses)) (now (a .values)) (a .held) (triples (now (a .entries)))
 
 copy-count-requires : tie.Need-copy-count-requires
 copy-count-requires c κs = search needs
 
 fill-requires : tie.Need-fill-requires
-fill-requires c κs = search needs
+fill-requires c κs =
+    let s = c .before .before .before .before in
+    let p = s .pre .0 in
+    ((p .0, omega (arith, p .1, p .2), p .4, p .5, omega (arith, copies-few (s .pre .1 .0), p .0 .0)), s .pre .1 .1)
 
 others-requires : tie.Need-others-requires
 others-requires c κs = search needs
@@ -52,16 +57,16 @@ returns c =
     let picks = renewed .before .before in
     let filled = picks .before .before .before in
     let copies = filled .before .before in
-    let start = copies .before .before in
+    let start = copies .before .before .before in
     let a = start .args in
     let table = start .pre .1 .0 in
     let fm = as-form (a .form) in
     let inside = start .pre .0 .1 in
     let n = copies .copy-count in
     let r = renewed .renew-picked in
-    does (move-total table (a .address) fm (a .page) (a .order) (a .n) (n .result) (a .value) (now (a .image)) inside (n .ensures .0))
+    does (move-total table fm (a .page) (a .order) (a .n) (n .result) (now (a .image)) inside (n .ensures .0))
     (moved fm (a .page) (a .order) (a .n) (copying start) (picks .others .result) inside (start .pre .0 .3)
-    (copies-fit table (a .address) fm (start .pre .0 .0 .0) (a .value))
+    (omega (arith, copies-few table, start .pre .0 .0 .0))
     (filled .fill .ensures) (picks .others .ensures) (record { image = r .ensures .1; left = r .ensures .0 }))
     (c .done .ensures)
 

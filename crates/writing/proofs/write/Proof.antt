@@ -1,157 +1,41 @@
--- `writing::write` meets its contract: each arm does the steps of the way that was chosen. Assumes nothing.
-use Prim.Native.Nat.{ℕ}
-use mathlib.Core.List.{List}
+-- `writing::write` meets its contract: the three bytes are the setting. Assumes nothing.
+use Prim.Native.Nat.{ℕ, _+_, _*_, _/_, _%_}
+use mathlib.Core.Path.{_≡_, refl, ap, _∙_}
+use native.Mathlib.Omega.{arith}
 use denote.Ref.{now}
 use borrow.Author.Needs.{needs}
-use Rattle.rules.specs.Page.{Form}
-use Rattle.rules.specs.Call.{Roomy}
+use Rattle.rules.specs.Steps.{single}
+use Rattle.rules.specs.Call.{write}
 use Rattle.pages.specs.Read.{as-form}
-use Rattle.settings.proofs.Tables.{holds-none}
-use Rattle.store.specs.Opened.{Opens}
-use Rattle.choosing.specs.Way.{Chosen}
-use Rattle.writing.proofs.Ways.{refusing, staying, append-ready, appended, open-ready, opened, tabled, move-fits, move-ready, moved-all}
+use Rattle.choosing.specs.Way.{change-of, Lent}
 use Rattle.writing.proofs.write.Statement.{statement}
 use Rattle.writing.proofs.write.Tie as tie
 
--- ---- what is known when the way is chosen
+whole : (a : ℕ) → a % 256 + 256 * (a / 256) ≡ a
+whole a = omega arith
 
-module _ (c : tie.After-choose) where
-  abbrev opened-from : tie.After-open
-  opened-from = c .before .before .before
+cast-t8 : tie.Need-cast-t8
+cast-t8 c = search needs
 
-  abbrev entry : tie.Start
-  entry = opened-from .before .before .before .before .before
+cast-t10 : tie.Need-cast-t10
+cast-t10 c = search needs
 
-  abbrev image : List ℕ
-  image = now (entry .args .image)
+slice-aggregate-change : tie.Need-slice-aggregate-change
+slice-aggregate-change c = search needs
 
-  abbrev form : Form
-  form = as-form (entry .args .form)
-
-  abbrev address : ℕ
-  address = entry .args .address
-
-  abbrev value : ℕ
-  value = entry .args .value
-
-  abbrev allowance : ℕ
-  allowance = entry .args .allowance
-
-  roomy : Roomy form
-  roomy = entry .pre .0
-
-  opens : Opens form image (opened-from .«open» .result) (opened-from .«open» .last .1 .1 .0) (opened-from .«open» .last .1 .1 .1 .0)
-  opens = opened-from .«open» .ensures
-
-  chosen : Chosen form address value image (c .choose .result)
-  chosen = c .choose .ensures image opens
-
--- ---- the needs
-
-open-requires : tie.Need-open-requires
-open-requires c κs = (c .before .before .before .before .pre, holds-none)
-
-choose-requires : tie.Need-choose-requires
-choose-requires c κs = search needs
-
-enum-known-number : tie.Need-enum-known-number
-enum-known-number c = search needs
-
-refused-requires : tie.Need-refused-requires
-refused-requires c κs = search needs
-
-enum-told : tie.Need-enum-told
-enum-told c = search needs
-
-done-requires : tie.Need-done-requires
-done-requires c κs = search needs
-
-enum-known-page : tie.Need-enum-known-page
-enum-known-page c = search needs
-
-append-requires : tie.Need-append-requires
-append-requires c κs =
-    let w = c .before .before .before .before in
-    let g = c .before .before .page .given in
-    let r = append-ready (form w) (address w) (value w) (allowance w) (image w) (roomy w) (chosen w) (g .0 .0) (g .0 .1 .0) (g .1) in
-    ((entry w .pre, r .0 .0, r .0 .1), r .1)
-
-enum-known-page-2 : tie.Need-enum-known-page-2
-enum-known-page-2 c = search needs
-
-open-page-requires : tie.Need-open-page-requires
-open-page-requires c κs =
-    let w = c .before .before .before .before in
-    let g = c .before .before .page2 .given in
-    let r = open-ready (form w) (address w) (value w) (allowance w) (image w) (roomy w) (chosen w) (g .0 .0) (g .0 .1 .0) (g .1) in
-    ((entry w .pre, r .0 .0, r .0 .1), r .1)
-
-enum-known-page-3 : tie.Need-enum-known-page-3
-enum-known-page-3 c = search needs
-
-move-to-requires : tie.Need-move-to-requires
-move-to-requires c κs =
-    let w = c .before .before .before .before .before .before in
-    let g = c .before .before .before .before .page3 .given in
-    let p = g .0 .0 in
-    let o = g .0 .1 .0 in
-    let f = move-fits (form w) (address w) (value w) (allowance w) (image w) (roomy w) (chosen w) p o (g .1) (opens w) in (
-      (entry w .pre, f .0, f .1, f .2, f .3, f .4, f .5),
-      (
-        tabled (form w) (address w) (value w) (allowance w) (image w) (roomy w) (chosen w) p o (g .1) (opens w),
-        move-ready (form w) (address w) (value w) (allowance w) (image w) (roomy w) (chosen w) p o (g .1) (opens w),
-      ),
-    )
+change-requires : tie.Need-change-requires
+unfolding Lent
+change-requires c κs = let s = c .before .before .before in (s .pre, λ q. refl)
 
 same-length : tie.Need-same-length
 same-length c = search needs
 
 returns : tie.Need-returns
+unfolding change-of
 returns c =
-    let w = c .before .before .before .before in
-    let g = c .before .before .number .given in
-    refusing (form w) (address w) (value w) (allowance w) (image w) (roomy w) (chosen w) (g .0 .0) (g .1) (c .refused .ensures)
-
-same-length-2 : tie.Need-same-length-2
-same-length-2 c = search needs
-
-returns-2 : tie.Need-returns-2
-returns-2 c =
-    let w = c .before .before .before in
-    staying (form w) (address w) (value w) (allowance w) (image w) (roomy w) (chosen w) (c .before .enum-told .given .1) (c .done .ensures)
-
-same-length-3 : tie.Need-same-length-3
-same-length-3 c = search needs
-
-returns-3 : tie.Need-returns-3
-returns-3 c =
-    let done = c .before .before in
-    let w = done .before .before .before .before .before in
-    let g = done .before .before .before .page .given in
-    appended (form w) (address w) (value w) (allowance w) (image w) (roomy w) (chosen w) (g .0 .0) (g .0 .1 .0) (g .1) (done .append .ensures)
-
-same-length-4 : tie.Need-same-length-4
-same-length-4 c = search needs
-
-returns-4 : tie.Need-returns-4
-returns-4 c =
-    let done = c .before .before in
-    let w = done .before .before .before .before .before in
-    let g = done .before .before .before .page2 .given in
-    opened (form w) (address w) (value w) (allowance w) (image w) (roomy w) (chosen w) (g .0 .0) (g .0 .1 .0) (g .1) (done .open-page .ensures)
-
-same-length-5 : tie.Need-same-length-5
-same-length-5 c = search needs
-
-returns-5 : tie.Need-returns-5
-returns-5 c =
-    let done = c .before .before in
-    let w = done .before .before .before .before .before .before .before in
-    let g = done .before .before .before .before .before .page3 .given in
-    moved-all (form w) (address w) (value w) (allowance w) (image w) (roomy w) (chosen w) (g .0 .0) (g .0 .1 .0) (g .1) (opens w) (done .move-to .ensures)
+    let d = c .before .before in
+    let a = d .before .before .before .before .args in
+    d .change .ensures ∙ ap (λ (x : ℕ). write (as-form (a .form)) (single x (a .value)) (a .allowance) (now (a .image))) (whole (a .address))
 
 pub write-spec : {M : Type 1} → statement M
-write-spec =
-    tie.close (tie.spec open-requires choose-requires enum-known-number refused-requires enum-told done-requires enum-known-page append-requires
-    enum-known-page-2 open-page-requires enum-known-page-3 move-to-requires same-length returns same-length-2 returns-2 same-length-3 returns-3
-    same-length-4 returns-4 same-length-5 returns-5)
+write-spec = tie.close (tie.spec cast-t8 cast-t10 slice-aggregate-change change-requires same-length returns)

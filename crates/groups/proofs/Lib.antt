@@ -1,0 +1,2 @@
+-- Laws of where slots stand; callers cite them.
+pub mod Standing
