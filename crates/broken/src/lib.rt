@@ -1,4 +1,5 @@
 // The words that broke (L6): how many slots of the used pages are half-written, and how many are spoiled.
+use groups::NONE;
 use groups::Place;
 use pages::Form;
 use survey::Look;
@@ -44,7 +45,7 @@ impl Broken {
 fn of_opening(place: Place) -> Broken
     ensures { λ r. ⌜ (r .half ≡ 0) × (place .number ≡ 0 → r .spoiled ≡ 0) × ((place .number ≡ 0 → ⊥) → r .spoiled ≡ 1) ⌝ }
 {
-    if place.number == 0 {
+    if place.number == NONE {
         return Broken::of(0, 0);
     }
     Broken::of(0, 1)

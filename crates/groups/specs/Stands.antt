@@ -1,12 +1,11 @@
 -- Where a slot stands, as the code has it in two numbers.
 use Prim.Native.Nat.{ℕ, _≤_, _<_}
 use mathlib.Core.Path.{_≡_}
-use mathlib.Core.Bool.{Bool, false, _&&_}
+use mathlib.Core.Bool.{Bool, false}
 use mathlib.Core.List.{List, [], _∷_, map}
 use lib.ListN.{length, drop}
-use lib.Dec.{eqb}
 use Rattle.rules.specs.Word.{Word, low16, third, Slot, recorded, opens, closes, neither}
-use Rattle.rules.specs.Store.{Setting, setting, Place, outside, inside, lost}
+use Rattle.rules.specs.Store.{Setting, setting, Place, outside, inside, lost, rightly-closed}
 use Rattle.groups.specs.declared.Place.{Place as Numbers}
 
 -- what words are if they are records
@@ -38,5 +37,5 @@ Proper (neither c) = Unit {0}
 -- whether the records of a group count by a mark that closes so many
 unfoldable pub is-closed : Place → (closing : ℕ) → Bool
 is-closed outside m = false
-is-closed (inside n rs) m = eqb m n && eqb (length rs) n
+is-closed (inside n rs) m = rightly-closed n m rs
 is-closed lost m = false

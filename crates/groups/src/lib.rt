@@ -9,8 +9,8 @@ ghost use Rattle.rules.specs.Store.{Place as Standing, outside, behind};
 ghost use Rattle.words.specs.Read.{as-slot};
 ghost use Rattle.groups.specs.Stands.{Stands, Proper, is-closed};
 
-// No group has these numbers.
-const NONE: usize = 0;
+// No group has these numbers: that of a slot outside a group, and that of one in a group that is lost.
+pub const NONE: usize = 0;
 
 const LOST: usize = 9;
 

@@ -134,8 +134,11 @@ behind lost (closes m) = outside
 behind lost (neither c) = lost
 
 -- S12. The records of a group count if it is closed with its own number and that is how many they are: what counts by a slot.
+abbrev pub rightly-closed : (number closing : ℕ) → List Setting → Bool
+rightly-closed n m rs = eqb m n && eqb (length rs) n
+
 unfoldable pub closed : (number closing : ℕ) → List Setting → List Setting
-closed n m rs = cond (eqb m n && eqb (length rs) n) rs []
+closed n m rs = cond (rightly-closed n m rs) rs []
 
 unfoldable pub counted : Place → Slot → List Setting
 counted outside (recorded a v) = setting a v ∷ []
