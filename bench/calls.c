@@ -1,6 +1,6 @@
-/* calls CALL IMAGE ADDRESS[,ADDRESS..] TIMES: does the call TIMES times, each time on a fresh copy of the image in that file;
- * a write gives the first address another value than it has, a group write gives it to all. Prints the answer's number, then
- * its steps or value.
+/* calls CALL IMAGE PAGE_SIZE ADDRESS[,ADDRESS..] TIMES: does the call TIMES times, each time on a fresh copy of the image in
+ * that file; a write gives the first address another value than it has, a group write gives it to all. Prints the answer's
+ * number, then its steps or value.
  *
  * With `stack` for TIMES it does it once and prints, in third place, the bytes of stack that the call used, the return
  * address that x86-64 puts there included: the call runs on a stack of its own that was painted before, and how far down
@@ -15,13 +15,14 @@
 
 typedef void function(void);
 
-static uint8_t image[ISTROVELL_PAGES_MAX * ISTROVELL_PAGE_SIZE];
+static uint8_t image[ISTROVELL_PAGES_MAX * ISTROVELL_LARGER_PAGE];
 static uint8_t lent[sizeof image];
 static size_t length;
+static uint16_t page_size;
 static uint8_t group[3 * ISTROVELL_GROUP_MAX];
 static size_t group_length;
 
-/* A call, with what follows pointer and length. The answers, of at most 8 bytes, come back in one register. */
+/* A call, with what follows pointer, length and page size. The answers, of at most 8 bytes, come back in one register. */
 struct call {
     const char *name;
     function *function;
@@ -30,8 +31,8 @@ struct call {
 
 static uint64_t plain(const struct call *call)
 {
-    typedef uint64_t any(uint8_t *, size_t, uint64_t, uint64_t, uint64_t);
-    return ((any *)call->function)(lent, length, call->rest[0], call->rest[1], call->rest[2]);
+    typedef uint64_t any(uint8_t *, size_t, uint64_t, uint64_t, uint64_t, uint64_t);
+    return ((any *)call->function)(lent, length, page_size, call->rest[0], call->rest[1], call->rest[2]);
 }
 
 #if defined(__x86_64__)
@@ -40,15 +41,17 @@ static uint64_t on_stack(const struct call *call, uint8_t *top)
     uint64_t answer;
     uint8_t *first = lent;
     size_t second = length;
-    uint64_t third = call->rest[0], fourth = call->rest[1];
-    register uint64_t fifth __asm__("r8") = call->rest[2];
+    uint64_t third = page_size, fourth = call->rest[0];
+    register uint64_t fifth __asm__("r8") = call->rest[1];
+    register uint64_t sixth __asm__("r9") = call->rest[2];
     __asm__ volatile("mov %%rsp, %%r12\n\t"
                      "mov %[top], %%rsp\n\t"
                      "call *%[function]\n\t"
                      "mov %%r12, %%rsp"
-                     : "=&a"(answer), "+D"(first), "+S"(second), "+d"(third), "+c"(fourth), "+r"(fifth)
+                     : "=&a"(answer), "+D"(first), "+S"(second), "+d"(third), "+c"(fourth), "+r"(fifth),
+                       "+r"(sixth)
                      : [top] "r"(top), [function] "r"(call->function)
-                     : "r9", "r10", "r11", "r12", "memory", "cc", "xmm0", "xmm1", "xmm2", "xmm3", "xmm4", "xmm5", "xmm6",
+                     : "r10", "r11", "r12", "memory", "cc", "xmm0", "xmm1", "xmm2", "xmm3", "xmm4", "xmm5", "xmm6",
                        "xmm7", "xmm8", "xmm9", "xmm10", "xmm11", "xmm12", "xmm13", "xmm14", "xmm15");
     return answer;
 }
@@ -57,16 +60,17 @@ static uint64_t on_stack(const struct call *call, uint8_t *top)
 {
     register uint64_t first __asm__("x0") = (uint64_t)lent; /* and the answer */
     register uint64_t second __asm__("x1") = length;
-    register uint64_t third __asm__("x2") = call->rest[0];
-    register uint64_t fourth __asm__("x3") = call->rest[1];
-    register uint64_t fifth __asm__("x4") = call->rest[2];
+    register uint64_t third __asm__("x2") = page_size;
+    register uint64_t fourth __asm__("x3") = call->rest[0];
+    register uint64_t fifth __asm__("x4") = call->rest[1];
+    register uint64_t sixth __asm__("x5") = call->rest[2];
     __asm__ volatile("mov x20, sp\n\t"
                      "mov sp, %[top]\n\t"
                      "blr %[function]\n\t"
                      "mov sp, x20"
-                     : "+r"(first), "+r"(second), "+r"(third), "+r"(fourth), "+r"(fifth)
+                     : "+r"(first), "+r"(second), "+r"(third), "+r"(fourth), "+r"(fifth), "+r"(sixth)
                      : [top] "r"(top), [function] "r"(call->function)
-                     : "x5", "x6", "x7", "x8", "x9", "x10", "x11", "x12", "x13", "x14", "x15", "x16", "x17", "x18", "x20",
+                     : "x6", "x7", "x8", "x9", "x10", "x11", "x12", "x13", "x14", "x15", "x16", "x17", "x18", "x20",
                        "x30", "memory", "cc", "v0", "v1", "v2", "v3", "v4", "v5", "v6", "v7", "v8", "v9", "v10", "v11",
                        "v12", "v13", "v14", "v15", "v16", "v17", "v18", "v19", "v20", "v21", "v22", "v23", "v24", "v25",
                        "v26", "v27", "v28", "v29", "v30", "v31");
@@ -103,16 +107,17 @@ static void make_group(char *addresses)
         const uint16_t address = (uint16_t)atoi(word);
         group[group_length++] = (uint8_t)(address & 255);
         group[group_length++] = (uint8_t)(address >> 8);
-        group[group_length++] = istrovell_blank_read(image, length, address).value ^ 1;
+        group[group_length++] = istrovell_blank_read(image, length, page_size, address).value ^ 1;
     }
 }
 
 int main(int count, char **words)
 {
-    if (count != 5)
+    if (count != 6)
         return 2;
     read_image(words[2]);
-    make_group(words[3]);
+    page_size = (uint16_t)atoi(words[3]);
+    make_group(words[4]);
     const uint16_t address = (uint16_t)(group[0] | group[1] << 8);
     const uint8_t value = group[2];
     const uint64_t all = ISTROVELL_ALL_STEPS;
@@ -132,10 +137,10 @@ int main(int count, char **words)
     uint64_t answer = 0;
     size_t used = 0;
     memcpy(lent, image, length);
-    if (strcmp(words[4], "stack") == 0) {
+    if (strcmp(words[5], "stack") == 0) {
         used = stack_used(call, &answer);
     } else {
-        for (long times = atol(words[4]); times > 0; times--) {
+        for (long times = atol(words[5]); times > 0; times--) {
             memcpy(lent, image, length);
             answer = plain(call);
         }

@@ -8,9 +8,11 @@ import re
 import subprocess
 import sys
 
+SIZES = (1024, 2048)
 PAGES = (2, 8, 32)
+# Each store, by its page size and its number of pages.
+STORES = [(size, pages) for size in SIZES for pages in PAGES]
 HELD = 192
-SLOTS = 253
 GROUP = 4
 SEED = 1
 # The most that a call may cost beside another.
@@ -36,28 +38,34 @@ def wear(count, edition):
     return word(count | edition << 16)
 
 
-def page(order, records, edition):
+def slots_of(size):
+    """How many slots a page of this size has, behind its three header words."""
+    return size // 4 - 3
+
+
+def page(order, records, edition, size):
     content = wear(1 + order % 9, edition) + word(order * 4 + 1) + b"\xff" * 4 + b"".join(records)
-    return content + b"\xff" * (1024 - len(content))
+    return content + b"\xff" * (size - len(content))
 
 
-def full_store(pages, edition=1):
+def full_store(size, pages, edition):
     """All pages but one full, 192 addresses held, each once to begin with and then at random; pages in random places. Gives
     the pages, the places of the active and of the cleared one, and the addresses that are held."""
     dice = random.Random(SEED)
+    slots = slots_of(size)
     pool = dice.sample(range(65535), HELD)
-    named = (pool + [dice.choice(pool) for _ in range((pages - 1) * SLOTS)])[: (pages - 1) * SLOTS]
+    named = (pool + [dice.choice(pool) for _ in range((pages - 1) * slots)])[: (pages - 1) * slots]
     records = [record(address, dice.randrange(256)) for address in named]
     places = dice.sample(range(pages), pages)
     image = [b""] * pages
     for order in range(pages - 1):
-        image[places[order]] = page(order, records[order * SLOTS : (order + 1) * SLOTS], edition)
-    image[places[-1]] = wear(3, edition) + b"\xff" * 1020
+        image[places[order]] = page(order, records[order * slots : (order + 1) * slots], edition, size)
+    image[places[-1]] = wear(3, edition) + b"\xff" * (size - 4)
     return image, places[pages - 2], places[-1], pool
 
 
 def address_in(content):
-    """The address in the middle slot of a page."""
+    """The address in a slot in the middle of a page."""
     return int.from_bytes(content[512:514], "little")
 
 
@@ -67,19 +75,20 @@ def with_free_slots(image, place, count):
     return [content if other == place else page for other, page in enumerate(image)]
 
 
-def cases(pages):
+def cases(size, pages):
     """Name, call, image, addresses, and the answer that is expected: its number and, of a call in steps, its steps."""
-    image, active, cleared, pool = full_store(pages)
-    second_edition = full_store(pages, 2)[0]
+    plain, grouped = (1, 2) if size == 1024 else (3, 3)
+    image, active, cleared, pool = full_store(size, pages, plain)
+    with_groups = full_store(size, pages, grouped)[0]
     address, group = pool[HELD // 2], pool[HELD // 2 : HELD // 2 + GROUP]
     torn = list(image)
     torn[cleared] = image[cleared][:-1] + b"\x00"
-    lost = [content if place == active else b"\xff" * 1024 for place, content in enumerate(image)]
+    lost = [content if place == active else b"\xff" * size for place, content in enumerate(image)]
     moved = 2 + 2 * HELD + 2 + 3 * (pages - 1)
     return [
         ("read", "read", image, [address], (0, None)),
         ("plain write", "write", with_free_slots(image, active, 1), [address], (0, 2)),
-        ("group write of four", "write_group", with_free_slots(second_edition, active, GROUP + 2), group, (0, 2 * GROUP + 4)),
+        ("group write of four", "write_group", with_free_slots(with_groups, active, GROUP + 2), group, (0, 2 * GROUP + 4)),
         ("write that moves", "write", image, [address], (0, moved)),
         ("recovery of one page", "recover", torn, [address], (0, 3)),
         ("read beside lost wears", "read", lost, [address_in(image[active])], (0, None)),
@@ -101,21 +110,21 @@ def answer_of(done, expected):
     return stack
 
 
-def words_of(call, image, addresses, times):
+def words_of(call, image, size, addresses, times):
     """The arguments of the program calls.c."""
-    return [call, image, ",".join(map(str, addresses)), str(times)]
+    return [call, image, str(size), ",".join(map(str, addresses)), str(times)]
 
 
-def collected(program, call, image, addresses, expected, times):
+def collected(program, call, image, size, addresses, expected, times):
     words = ["valgrind", "--tool=callgrind", "--callgrind-out-file=/dev/null", f"--toggle-collect=istrovell_{call}"]
-    done = output(words + [program] + words_of(call, image, addresses, times))
+    done = output(words + [program] + words_of(call, image, size, addresses, times))
     answer_of(done, expected)
     return int(re.search(r"Collected : (\d+)", done.stderr).group(1))
 
 
-def instructions(program, call, image, addresses, expected):
+def instructions(program, call, image, size, addresses, expected):
     """Of the second of two calls: what only a first call does (a heap set up, say) is not counted."""
-    once, twice = (collected(program, call, image, addresses, expected, times) for times in (1, 2))
+    once, twice = (collected(program, call, image, size, addresses, expected, times) for times in (1, 2))
     return twice - once
 
 
@@ -128,27 +137,27 @@ def written(directory, name, pages):
 
 def measure_instructions(directory):
     counts = {}
-    for pages in PAGES:
-        for name, call, image, addresses, expected in cases(pages):
+    for size, pages in STORES:
+        for name, call, image, addresses, expected in cases(size, pages):
             path = written(directory, "image", image)
             for which in ("library", "second"):
                 program = os.path.join(directory, which)
-                counts[name, pages, which] = instructions(program, call, path, addresses, expected)
-            print(f"{name}, {pages} pages", file=sys.stderr)
+                counts[name, size, pages, which] = instructions(program, call, path, size, addresses, expected)
+            print(f"{name}, {pages} pages of {size:,}", file=sys.stderr)
     return counts
 
 
 def measure_stack(directory):
     """The most that any of the cases uses, by exported call."""
     used = {}
-    for pages in PAGES:
-        found = cases(pages)
+    for size, pages in STORES:
+        found = cases(size, pages)
         image, addresses = found[0][2:4]
         others = [(call, call, image, addresses, (0, None)) for call in ("format", "blank_read", "lookup")]
         for _, call, image, addresses, expected in found + others:
             path = written(directory, "image", image)
-            done = output([os.path.join(directory, "library")] + words_of(call, path, addresses, "stack"))
-            used[call, pages] = max(used.get((call, pages), 0), answer_of(done, expected))
+            done = output([os.path.join(directory, "library")] + words_of(call, path, size, addresses, "stack"))
+            used[call, size, pages] = max(used.get((call, size, pages), 0), answer_of(done, expected))
     return used
 
 
@@ -158,31 +167,35 @@ def table(head, rows):
     return "\n".join(lines)
 
 
-def instruction_table(counts):
+def instruction_table(counts, size):
     rows = []
-    for name in dict.fromkeys(name for name, _, _ in counts):
+    for name in dict.fromkeys(key[0] for key in counts):
         for pages in PAGES:
-            library, second = counts[name, pages, "library"], counts[name, pages, "second"]
+            library, second = counts[name, size, pages, "library"], counts[name, size, pages, "second"]
             rows.append([name, str(pages), f"{library:,}", f"{second:,}", f"{second / library:.2f}"])
-    return table(["call", "pages", "library", "second", "second / library"], rows)
+    return table([f"call, pages of {size:,} bytes", "pages", "library", "second", "second / library"], rows)
+
+
+def store_heads():
+    return [f"{pages} x {size:,}" for size, pages in STORES]
 
 
 def ratio_table(counts):
     rows = []
     for name, (other, limit) in LIMITS.items():
-        ratios = [counts[name, pages, "library"] / counts[other, pages, "library"] for pages in PAGES]
+        ratios = [counts[name, *store, "library"] / counts[other, *store, "library"] for store in STORES]
         kept = "yes" if max(ratios) <= limit else "NO"
         rows.append([f"{name} / {other}", *(f"{ratio:.2f}" for ratio in ratios), f"{limit}", kept])
-    return table(["ratio", *(f"{pages} pages" for pages in PAGES), "at most", "kept"], rows)
+    return table(["ratio", *store_heads(), "at most", "kept"], rows)
 
 
 def stack_table(used):
     rows = []
     for call in ("format", "recover", "write", "write_group", "read", "blank_read", "lookup"):
-        depths = [used[call, pages] for pages in PAGES]
+        depths = [used[call, *store] for store in STORES]
         kept = "yes" if max(depths) <= STACK_LIMIT else "NO"
         rows.append([f"`istrovell_{call}`", *(f"{depth:,}" for depth in depths), f"{STACK_LIMIT:,}", kept])
-    return table(["call", *(f"{pages} pages" for pages in PAGES), "at most", "kept"], rows)
+    return table(["call", *store_heads(), "at most", "kept"], rows)
 
 
 def version(*words):
@@ -200,11 +213,14 @@ Made by `bench/run`, which writes this page. {machine}; {tools}.
 
 Counted by callgrind inside the exported function, in a second call, so that nothing is counted that only a first call
 does. {HELD} addresses are held, their records in random order (seed {SEED}); all pages but one are full, and the last slot
-is free for the plain write, the last {GROUP + 2} for the group write, which is of held addresses in a store of the second edition;
-all other stores are of the first. Where wears are lost, every page but the active one is blank and so without a wear. `second`
-is the second implementation of `outside/`, in Rust, built for release: it is written to be clear, and not to be fast.
+is free for the plain write, the last {GROUP + 2} for the group write, which is of held addresses. Pages of 1,024 bytes are of the
+second edition for it, and of the first for all other calls. Where wears are lost, every page but the active one is blank and so
+without a wear. `second` is the second implementation of `outside/`, in Rust, built for release: it is written to be clear, and not
+to be fast.
 
-{instruction_table(counts)}
+{instruction_table(counts, 1024)}
+
+{instruction_table(counts, 2048)}
 
 ## What a change costs beside another call
 

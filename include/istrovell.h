@@ -1,14 +1,24 @@
 /* Istrovell: a settings store in flash that keeps its word when power fails.
  *
  * A setting is one byte at an address 0 to 65,534. At most 192 addresses are held. The store is an image of 2 to 32 pages
- * of 1,024 bytes, lent to each call by pointer and length. Its pages are of the first edition or of the second, which format
- * is told; a store of the second can be written by groups, and everything else is alike. Every other call reads the edition
- * off the image. Firmware that was built before there was a second edition answers ISTROVELL_NO_STORE to it.
+ * of 1,024 bytes or, on the larger chip, of 2,048 bytes. It is lent to each call by pointer and length, and the call names
+ * the page size.
+ *
+ * Pages of 1,024 bytes are of the first edition or of the second, which format is told; a store of the second can be written
+ * by groups, and everything else is alike. Every other call reads the edition off the image. Firmware that was built before
+ * there was a second edition answers ISTROVELL_NO_STORE to it. Pages of 2,048 bytes have one edition, the third; it can be
+ * written by groups.
+ *
+ * THE PAGE SIZE
+ *   Every call on a store names the size that its format named: nothing in the image is asked for it. A call that names the
+ *   other size is answered, and changes nothing outside the image, but of what it finds there nothing is promised: settings
+ *   of a store with pages of 2,048 bytes can look like a page of 1,024. So let the size be one constant of the firmware.
  *
  * WHAT HOLDS OF EVERY CALL
- *   - Any length and any bytes are lawful input, and the pointer may have any alignment. A length that no store has
- *     answers ISTROVELL_SIZE; 0 is such a length, and with it the pointer is not followed and may be null. The caller
- *     answers for this: that the `length` bytes at `image` are there, and that nobody else changes them meanwhile.
+ *   - Any length, any page size and any bytes are lawful input, and the pointer may have any alignment. A page size other
+ *     than 1,024 and 2,048, or a length that no store of that size has, answers ISTROVELL_SIZE, and no byte is read; 0 is
+ *     such a length, and with it the pointer may be null. The caller answers for this: that the `length` bytes at `image`
+ *     are there, and that nobody else changes them meanwhile.
  *   - Only the bytes of the image are read, and only they are changed. A call that refuses (a number other than
  *     ISTROVELL_OK) changes no byte, and its other members are 0 and false.
  *   - Every call returns. None keeps anything between calls, takes memory from a heap or waits. The library needs memcpy,
@@ -34,7 +44,7 @@
  *       memcpy(start, flash, length);
  *       for (uint16_t k = 1;; k++) {
  *           memcpy(work, start, length);
- *           answer = istrovell_write(work, length, address, value, k);
+ *           answer = istrovell_write(work, length, page_size, address, value, k);
  *           if (answer.number != ISTROVELL_OK)
  *               return answer;                  // refused: the flash stays
  *           carry(work);                        // flash and work differ by step k: do it
@@ -64,7 +74,8 @@
 extern "C" {
 #endif
 
-#define ISTROVELL_PAGE_SIZE 1024u     /* bytes of a page */
+#define ISTROVELL_SMALLER_PAGE 1024u  /* the page sizes: bytes of a page */
+#define ISTROVELL_LARGER_PAGE 2048u   /* on the larger chip */
 #define ISTROVELL_PAGES_MIN 2u        /* pages of an image, at least */
 #define ISTROVELL_PAGES_MAX 32u       /* and at most */
 #define ISTROVELL_ADDRESS_MAX 65534u  /* the last address */
@@ -76,7 +87,7 @@ extern "C" {
 /* The answers by number. Where several would fit, the first in this order is given: 1, 2, 3, 4, 9, 5, 6, 7, 8. */
 enum istrovell_number {
     ISTROVELL_OK = 0,        /* done, or stopped by the allowance */
-    ISTROVELL_SIZE = 1,      /* the length is no multiple of 1,024, or not 2 to 32 pages */
+    ISTROVELL_SIZE = 1,      /* no such page size, or the length is no multiple of it, or not 2 to 32 pages */
     ISTROVELL_NO_STORE = 2,  /* no open page: never formatted, or no image of ours */
     ISTROVELL_DAMAGED = 3,   /* two used pages of one order, or every page used, or more than 192 addresses held */
     ISTROVELL_UNCLEAN = 4,   /* a page neither used nor cleared, or a group cut short: recover, then write again */
@@ -111,16 +122,16 @@ struct istrovell_pairing {
 };
 
 /* Makes the image an empty store of the second edition, or of the first, with wear 1 on every page, whatever it was. Every
- * setting is lost.
+ * setting is lost. With pages of 2,048 bytes second_edition is not looked at.
  * Answers 0 or 1. */
-uint8_t istrovell_format(uint8_t *image, size_t length, bool second_edition);
+uint8_t istrovell_format(uint8_t *image, size_t length, uint16_t page_size, bool second_edition);
 
 /* Ends a group that was cut short, by a mark in the next free slot, in 2 steps. Then erases each page that is neither used nor
  * cleared and programs its wear word, in 3 steps a page. No setting changes. The wear is one more than the page's own or, if
- * that is lost, than the greatest of all pages then; 65,535 at most. A page of the other edition than the store's is one of
+ * that is lost, than the greatest of all pages then; 65,535 at most. A page of another edition than the store's is one of
  * those pages, its wear lost.
  * Answers 0 to 3; 0 with finished false if the allowance ended it. */
-struct istrovell_stepped istrovell_recover(uint8_t *image, size_t length, uint16_t allowance);
+struct istrovell_stepped istrovell_recover(uint8_t *image, size_t length, uint16_t page_size, uint16_t allowance);
 
 /* Puts the value at the address. An address that has the value already takes 0 steps; a free slot 2; a new page 4; a move
  * of all settings to the only cleared page at most 388 + 3 x (pages - 1), that is 481 at 32 pages.
@@ -128,8 +139,8 @@ struct istrovell_stepped istrovell_recover(uint8_t *image, size_t length, uint16
  *
  * If power fails in any step, and in any step of the recoveries after it, every other address reads as before, and this
  * one as before or with the new value; once a step has made it new, a failure at a later step leaves it new. */
-struct istrovell_stepped istrovell_write(uint8_t *image, size_t length, uint16_t address, uint8_t value,
-                                         uint16_t allowance);
+struct istrovell_stepped istrovell_write(uint8_t *image, size_t length, uint16_t page_size, uint16_t address,
+                                         uint8_t value, uint16_t allowance);
 
 /* Puts the values of a group at its addresses, as one: a pairing code, say. `group` has three bytes for each setting: its
  * address, low byte first, then its value; `group_length` counts these bytes, so it is 3, 6, up to 24. The addresses must
@@ -142,19 +153,20 @@ struct istrovell_stepped istrovell_write(uint8_t *image, size_t length, uint16_t
  * If power fails in any step, and in any step of the recoveries after it, every other address reads as before, and those of
  * the group all as before or all with the new values; once a step has made them new, a failure at a later step leaves them
  * new. So a lookup gives the old code or the new one, never a mixture. */
-struct istrovell_stepped istrovell_write_group(uint8_t *image, size_t length, const uint8_t *group, size_t group_length,
-                                               uint16_t allowance);
+struct istrovell_stepped istrovell_write_group(uint8_t *image, size_t length, uint16_t page_size, const uint8_t *group,
+                                               size_t group_length, uint16_t allowance);
 
 /* The value at the address. Answers 0, 1, 2, 3, 5 or 8. Recovery need not have run. */
-struct istrovell_reading istrovell_read(const uint8_t *image, size_t length, uint16_t address);
+struct istrovell_reading istrovell_read(const uint8_t *image, size_t length, uint16_t page_size, uint16_t address);
 
 /* The same with value 0, and number 0, for an address that is not held: what a kiln-side display gets for an offset that
  * nobody has set. One that was set to 0 answers the same; istrovell_read tells them apart. Answers 0, 1, 2, 3 or 5. */
-struct istrovell_reading istrovell_blank_read(const uint8_t *image, size_t length, uint16_t address);
+struct istrovell_reading istrovell_blank_read(const uint8_t *image, size_t length, uint16_t page_size,
+                                              uint16_t address);
 
 /* The blank reads of addresses 16 to 19 as digits, and whether they are a pairing code. A digit whose address is not held is
  * 0, which may be a digit too, so ask paired. Answers 0 to 3. */
-struct istrovell_pairing istrovell_lookup(const uint8_t *image, size_t length);
+struct istrovell_pairing istrovell_lookup(const uint8_t *image, size_t length, uint16_t page_size);
 
 #ifdef __cplusplus
 }

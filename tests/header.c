@@ -1,5 +1,5 @@
 /* include/istrovell.h against the library, as C and as C++: the numbers, the answers' layout, a null image and a null group
- * of length 0. Ends with status 1 at the first difference. */
+ * of length 0, wrong page sizes, and a store of either page size. Ends with status 1 at the first difference. */
 #include "istrovell.h"
 
 #include <stdio.h>
@@ -50,76 +50,87 @@ static bool finds(struct istrovell_pairing answer, uint8_t number, bool paired, 
            answer.digit1 == digits[1] && answer.digit2 == digits[2] && answer.digit3 == digits[3];
 }
 
-static void nothing_lent(void)
+static void all_refuse(uint8_t *image, size_t length, uint16_t size)
 {
     const uint8_t none[] = {0, 0, 0, 0};
-    expect(istrovell_format(NULL, 0, false) == ISTROVELL_SIZE, "format of nothing");
-    expect(istrovell_format(NULL, 0, true) == ISTROVELL_SIZE, "format of nothing with the second edition");
-    expect(refused(istrovell_recover(NULL, 0, ISTROVELL_ALL_STEPS), ISTROVELL_SIZE), "recovery of nothing");
-    expect(refused(istrovell_write(NULL, 0, 5, 65, ISTROVELL_ALL_STEPS), ISTROVELL_SIZE), "write to nothing");
-    expect(refused(istrovell_write_group(NULL, 0, NULL, 0, ISTROVELL_ALL_STEPS), ISTROVELL_SIZE),
-           "group write of nothing to nothing");
-    expect(reads(istrovell_read(NULL, 0, 5), ISTROVELL_SIZE, 0), "read of nothing");
-    expect(reads(istrovell_blank_read(NULL, 0, 5), ISTROVELL_SIZE, 0), "blank read of nothing");
-    expect(finds(istrovell_lookup(NULL, 0), ISTROVELL_SIZE, false, none), "lookup in nothing");
+    const uint16_t all = ISTROVELL_ALL_STEPS;
+    expect(istrovell_format(image, length, size, false) == ISTROVELL_SIZE, "format, SIZE");
+    expect(istrovell_format(image, length, size, true) == ISTROVELL_SIZE, "format with the second edition, SIZE");
+    expect(refused(istrovell_recover(image, length, size, all), ISTROVELL_SIZE), "recovery, SIZE");
+    expect(refused(istrovell_write(image, length, size, 5, 65, all), ISTROVELL_SIZE), "write, SIZE");
+    expect(refused(istrovell_write_group(image, length, size, NULL, 0, all), ISTROVELL_SIZE), "group write, SIZE");
+    expect(reads(istrovell_read(image, length, size, 5), ISTROVELL_SIZE, 0), "read, SIZE");
+    expect(reads(istrovell_blank_read(image, length, size, 5), ISTROVELL_SIZE, 0), "blank read, SIZE");
+    expect(finds(istrovell_lookup(image, length, size), ISTROVELL_SIZE, false, none), "lookup, SIZE");
 }
 
-#define LENGTH (2 * ISTROVELL_PAGE_SIZE)
+#define LENGTH (2 * ISTROVELL_LARGER_PAGE)
 
 /* Each member of each answer comes across; the image begins at an odd address. The last digit is 0, so that only `paired`
- * says that it was written. */
-static void one_store(void)
+ * says that it was written. At 1,024 bytes a page the image has four pages, at 2,048 two. */
+static void one_store(uint16_t size)
 {
     const uint8_t code[] = {9, 255, 7, 0};
+    const uint16_t all = ISTROVELL_ALL_STEPS;
     static uint8_t bytes[1 + LENGTH];
     uint8_t *const image = bytes + 1;
-    expect(istrovell_format(image, LENGTH, false) == ISTROVELL_OK, "format");
-    expect(stopped(istrovell_write(image, LENGTH, 5, 65, 1), 1), "a write of one step");
-    expect(reads(istrovell_read(image, LENGTH, 5), ISTROVELL_NOT_HELD, 0), "a write that was cut");
-    expect(finished(istrovell_recover(image, LENGTH, ISTROVELL_ALL_STEPS), 0), "recovery");
+    expect(istrovell_format(image, LENGTH, size, false) == ISTROVELL_OK, "format");
+    expect(image[2] == (size == ISTROVELL_LARGER_PAGE ? 3 : 1), "the edition");
+    expect(stopped(istrovell_write(image, LENGTH, size, 5, 65, 1), 1), "a write of one step");
+    expect(reads(istrovell_read(image, LENGTH, size, 5), ISTROVELL_NOT_HELD, 0), "a write that was cut");
+    expect(finished(istrovell_recover(image, LENGTH, size, all), 0), "recovery");
     for (uint8_t digit = 0; digit < 4; digit++) {
         const uint16_t address = (uint16_t)(ISTROVELL_PAIRING_ADDRESS + digit);
         if (digit == 3)
-            expect(finds(istrovell_lookup(image, LENGTH), ISTROVELL_OK, false, code), "lookup without the last digit");
-        expect(finished(istrovell_write(image, LENGTH, address, code[digit], ISTROVELL_ALL_STEPS), 2), "a write");
+            expect(finds(istrovell_lookup(image, LENGTH, size), ISTROVELL_OK, false, code), "lookup without the last digit");
+        expect(finished(istrovell_write(image, LENGTH, size, address, code[digit], all), 2), "a write");
     }
-    expect(finds(istrovell_lookup(image, LENGTH), ISTROVELL_OK, true, code), "lookup");
-    expect(reads(istrovell_read(image, LENGTH, 18), ISTROVELL_OK, 7), "read");
-    expect(reads(istrovell_blank_read(image, LENGTH, 17), ISTROVELL_OK, 255), "blank read");
-    expect(reads(istrovell_blank_read(image, LENGTH, 5), ISTROVELL_OK, 0), "blank read of an address that is not held");
-    expect(reads(istrovell_read(image, LENGTH, ISTROVELL_ADDRESS_MAX + 1), ISTROVELL_ADDRESS, 0), "address 65,535");
-    expect(refused(istrovell_write_group(image, LENGTH, code, 3, ISTROVELL_ALL_STEPS), ISTROVELL_GROUP),
-           "a group in a store of the first edition");
+    expect(finds(istrovell_lookup(image, LENGTH, size), ISTROVELL_OK, true, code), "lookup");
+    expect(reads(istrovell_read(image, LENGTH, size, 18), ISTROVELL_OK, 7), "read");
+    expect(reads(istrovell_blank_read(image, LENGTH, size, 17), ISTROVELL_OK, 255), "blank read");
+    expect(reads(istrovell_blank_read(image, LENGTH, size, 5), ISTROVELL_OK, 0), "blank read of an address that is not held");
+    expect(reads(istrovell_read(image, LENGTH, size, ISTROVELL_ADDRESS_MAX + 1), ISTROVELL_ADDRESS, 0), "address 65,535");
+    if (size == ISTROVELL_SMALLER_PAGE)
+        expect(refused(istrovell_write_group(image, LENGTH, size, code, 3, all), ISTROVELL_GROUP),
+               "a group in a store of the first edition");
 }
 
 /* A code written as one, stopped before its end and then done; the group begins at an odd address too. */
-static void one_group(void)
+static void one_group(uint16_t size)
 {
     const uint8_t none[] = {0, 0, 0, 0}, code[] = {7, 1, 3, 9};
     const uint8_t lent[] = {0, 16, 0, 7, 17, 0, 1, 18, 0, 3, 19, 0, 9}, *const group = lent + 1;
     const size_t group_length = sizeof lent - 1;
+    const uint16_t all = ISTROVELL_ALL_STEPS;
     static const uint8_t nine[3 * (ISTROVELL_GROUP_MAX + 1)] = {0};
     static uint8_t image[LENGTH];
-    expect(istrovell_format(image, LENGTH, true) == ISTROVELL_OK, "format with the second edition");
-    expect(image[2] == 2, "the second edition");
-    expect(refused(istrovell_write_group(image, LENGTH, NULL, 0, ISTROVELL_ALL_STEPS), ISTROVELL_GROUP),
-           "a group write of nothing");
-    expect(stopped(istrovell_write_group(image, LENGTH, group, group_length, 11), 11), "a group write of 11 steps");
-    expect(finds(istrovell_lookup(image, LENGTH), ISTROVELL_OK, false, none), "a group that was cut");
-    expect(refused(istrovell_write(image, LENGTH, 5, 65, ISTROVELL_ALL_STEPS), ISTROVELL_UNCLEAN),
+    expect(istrovell_format(image, LENGTH, size, true) == ISTROVELL_OK, "format with the second edition");
+    expect(image[2] == (size == ISTROVELL_LARGER_PAGE ? 3 : 2), "an edition with groups");
+    expect(refused(istrovell_write_group(image, LENGTH, size, NULL, 0, all), ISTROVELL_GROUP), "a group write of nothing");
+    expect(stopped(istrovell_write_group(image, LENGTH, size, group, group_length, 11), 11), "a group write of 11 steps");
+    expect(finds(istrovell_lookup(image, LENGTH, size), ISTROVELL_OK, false, none), "a group that was cut");
+    expect(refused(istrovell_write(image, LENGTH, size, 5, 65, all), ISTROVELL_UNCLEAN),
            "a write behind a group that was cut");
-    expect(finished(istrovell_recover(image, LENGTH, ISTROVELL_ALL_STEPS), 2), "recovery of a group that was cut");
-    expect(finished(istrovell_write_group(image, LENGTH, group, group_length, ISTROVELL_ALL_STEPS), 12), "a group write");
-    expect(finds(istrovell_lookup(image, LENGTH), ISTROVELL_OK, true, code), "lookup of a code written as one");
-    expect(finished(istrovell_write_group(image, LENGTH, group, group_length, 0), 0), "a group whose values are held");
-    expect(refused(istrovell_write_group(image, LENGTH, nine, sizeof nine, 0), ISTROVELL_GROUP), "a group of nine");
+    expect(finished(istrovell_recover(image, LENGTH, size, all), 2), "recovery of a group that was cut");
+    expect(finished(istrovell_write_group(image, LENGTH, size, group, group_length, all), 12), "a group write");
+    expect(finds(istrovell_lookup(image, LENGTH, size), ISTROVELL_OK, true, code), "lookup of a code written as one");
+    expect(finished(istrovell_write_group(image, LENGTH, size, group, group_length, 0), 0), "a group whose values are held");
+    expect(refused(istrovell_write_group(image, LENGTH, size, nine, sizeof nine, 0), ISTROVELL_GROUP), "a group of nine");
 }
 
 int main(void)
 {
+    static uint8_t image[LENGTH];
+    const uint16_t sizes[] = {ISTROVELL_SMALLER_PAGE, ISTROVELL_LARGER_PAGE};
+    const uint16_t wrong[] = {0, 1, 512, 1023, 1025, 2047, 2049, 4096, 32768, 65535};
     numbers();
-    nothing_lent();
-    one_store();
-    one_group();
+    for (size_t i = 0; i < sizeof sizes / sizeof sizes[0]; i++) {
+        all_refuse(NULL, 0, sizes[i]);
+        all_refuse(image, sizes[i], sizes[i]);
+        one_store(sizes[i]);
+        one_group(sizes[i]);
+    }
+    for (size_t i = 0; i < sizeof wrong / sizeof wrong[0]; i++)
+        all_refuse(image, LENGTH, wrong[i]);
     return 0;
 }

@@ -6,7 +6,10 @@
 #include <stddef.h>
 #include <stdint.h>
 
+/* The larger chip has pages of 2,048 bytes: the Makefile builds the handset for either. */
+#ifndef FLASH_PAGE_BYTES
 #define FLASH_PAGE_BYTES 1024u
+#endif
 #define FLASH_PAGES 3u
 #define FLASH_BYTES (FLASH_PAGES * FLASH_PAGE_BYTES)
 

@@ -23,12 +23,12 @@ static void expect(bool holds, const char *what, unsigned step, unsigned tear)
 
 static uint8_t get(const struct flash *chip, uint16_t address)
 {
-    return istrovell_read(chip->bytes, FLASH_BYTES, address).value;
+    return istrovell_read(chip->bytes, FLASH_BYTES, FLASH_PAGE_BYTES, address).value;
 }
 
 static bool has_code(const struct flash *chip, const uint8_t code[4])
 {
-    const struct istrovell_pairing found = istrovell_lookup(chip->bytes, FLASH_BYTES);
+    const struct istrovell_pairing found = istrovell_lookup(chip->bytes, FLASH_BYTES, FLASH_PAGE_BYTES);
     return found.number == ISTROVELL_OK && found.paired && found.digit0 == code[0] && found.digit1 == code[1] &&
            found.digit2 == code[2] && found.digit3 == code[3];
 }
@@ -51,7 +51,7 @@ static void set_up(struct flash *chip)
     expect(settings_start(chip).number == ISTROVELL_NO_STORE, "a new chip has no store", 0, 0);
     /* Here the line at the factory says that the device is new. Without that word nothing is formatted. */
     expect(settings_format(chip), "the format", 0, 0);
-    printf("new device: NO STORE; formatted, %u pages, %u steps\n", FLASH_PAGES, chip->steps);
+    printf("new device: NO STORE; formatted, %u pages of %u bytes, %u steps\n", FLASH_PAGES, FLASH_PAGE_BYTES, chip->steps);
     expect(settings_start(chip).finished, "the formatted store", 0, 0);
     expect(done(settings_pair(chip, first_code)) && has_code(chip, first_code), "the first pairing", 0, 0);
     expect(set(chip, EMISSIVITY, 95) && set(chip, UNIT, 1) && set(chip, ALARM_LOW, 40) && set(chip, ALARM_HIGH, 200) &&

@@ -44,10 +44,11 @@ static struct istrovell_stepped call(const struct change *change, uint16_t allow
 {
     memcpy(work, start, FLASH_BYTES);
     if (change == NULL)
-        return istrovell_recover(work, FLASH_BYTES, allowance);
+        return istrovell_recover(work, FLASH_BYTES, FLASH_PAGE_BYTES, allowance);
     if (change->group != NULL)
-        return istrovell_write_group(work, FLASH_BYTES, change->group, change->group_length, allowance);
-    return istrovell_write(work, FLASH_BYTES, change->address, change->value, allowance);
+        return istrovell_write_group(work, FLASH_BYTES, FLASH_PAGE_BYTES, change->group, change->group_length,
+                                     allowance);
+    return istrovell_write(work, FLASH_BYTES, FLASH_PAGE_BYTES, change->address, change->value, allowance);
 }
 
 static struct istrovell_stepped carry_all(struct flash *chip, const struct change *change)
@@ -99,7 +100,7 @@ static bool program_word(struct flash *chip, size_t offset)
 
 bool settings_format(struct flash *chip)
 {
-    istrovell_format(work, FLASH_BYTES, true);
+    istrovell_format(work, FLASH_BYTES, FLASH_PAGE_BYTES, true);
     for (size_t page = 0; page < FLASH_PAGES; page++) {
         if (!flash_erase(chip, page) || !program_word(chip, page * FLASH_PAGE_BYTES))
             return false;

@@ -7,7 +7,8 @@
 
 /* An answer with number 0 that is not finished: power failed. */
 
-/* For a new device only: a store of the second edition, because settings_pair writes a group. False: power failed. */
+/* For a new device only: a store of the second edition, because settings_pair writes a group; the larger chip's edition has
+ * groups in any case. False: power failed. */
 bool settings_format(struct flash *chip);
 
 /* At start-up, before anything else. */

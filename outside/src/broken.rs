@@ -8,8 +8,10 @@ use crate::steps::*;
 use crate::word::*;
 use crate::{Pairing, Reading, Second, Stepped, Store};
 
+mod chips;
 mod groups;
 
+pub use chips::{WrongChip, WRONG_CHIPS};
 pub use groups::{WrongGroup, WRONG_GROUPS};
 
 #[derive(Clone, Copy, Debug, PartialEq, Eq)]
@@ -52,37 +54,37 @@ pub const WRONG_WEARS: [Broken; 5] = [
 ];
 
 impl Plan for Broken {
-    fn format_steps(&self, image: &[u8], edition: Edition) -> Result<Vec<Step>, u8> {
-        Ok(self.rechecked(format_steps(image, edition)?))
+    fn format_steps(&self, image: &[u8], chip: Chip, second_edition: bool) -> Result<Vec<Step>, u8> {
+        Ok(self.rechecked(format_steps(image, chip, chip.told(second_edition))?))
     }
 
-    fn recovery_steps(&self, image: &[u8]) -> Result<Vec<Step>, u8> {
-        let seen = self.seen(image);
-        Ok(self.reworn(&seen, self.rechecked(recovery_steps(&seen)?)))
+    fn recovery_steps(&self, image: &[u8], chip: Chip) -> Result<Vec<Step>, u8> {
+        let seen = self.seen(image, chip);
+        Ok(self.reworn(&seen, chip, self.rechecked(recovery_steps(&seen, chip)?)))
     }
 
-    fn change_steps(&self, image: &[u8], change: &Change) -> Result<Vec<Step>, u8> {
-        let seen = self.seen(image);
-        let steps = self.rechecked(change_steps(&seen, change)?);
+    fn change_steps(&self, image: &[u8], chip: Chip, change: &Change) -> Result<Vec<Step>, u8> {
+        let seen = self.seen(image, chip);
+        let steps = self.rechecked(change_steps(&seen, chip, change)?);
         let single = match *change {
-            Change::Single((address, value)) => Some((address, value, held(&seen).get(&address).copied())),
+            Change::Single((address, value)) => Some((address, value, held(&seen, chip).get(&address).copied())),
             Change::Group(_) => None,
         };
         Ok(match (self, single) {
             (Broken::EraseFirst, _) => erase_first(steps),
-            (Broken::OldAfterNew, Some((address, _, Some(old)))) => old_after_new(&seen, steps, address, old),
-            (Broken::Wavering, Some((address, value, Some(old)))) => wavering(steps, address, old, value),
-            (Broken::FirstBlankSlot, Some((address, value, _))) => first_blank_slot(&seen, steps, address, value),
-            _ => self.reworn(&seen, steps),
+            (Broken::OldAfterNew, Some((address, _, Some(old)))) => old_after_new(&seen, chip, steps, address, old),
+            (Broken::Wavering, Some((address, value, Some(old)))) => wavering(chip, steps, address, old, value),
+            (Broken::FirstBlankSlot, Some((address, value, _))) => first_blank_slot(&seen, chip, steps, address, value),
+            _ => self.reworn(&seen, chip, steps),
         })
     }
 
-    fn seen(&self, image: &[u8]) -> Vec<u8> {
+    fn seen(&self, image: &[u8], chip: Chip) -> Vec<u8> {
         let mut seen = image.to_vec();
-        let whole = test_size(image).is_ok();
+        let whole = test_size(image, chip).is_ok();
         match self {
-            Broken::ReceivingIsCurrent if whole => add_done_words(&mut seen),
-            Broken::OldPagesCount if whole => make_all_plain(&mut seen),
+            Broken::ReceivingIsCurrent if whole => add_done_words(&mut seen, chip),
+            Broken::OldPagesCount if whole => make_all_plain(&mut seen, chip),
             _ => {}
         }
         if let (Some(check), true) = (self.wrong_check(), whole) {
@@ -94,8 +96,8 @@ impl Plan for Broken {
 
 type Check = fn([u8; 3]) -> u8;
 
-/// The wear that a page gets, by the image at the call, the image just before its erase, and the edition.
-type WearRule = fn(&[u8], &[u8], Edition, usize) -> u16;
+/// The wear that a page gets, by the image at the call, the image just before its erase, the chip and the edition.
+type WearRule = fn(&[u8], &[u8], Chip, Edition, usize) -> u16;
 
 impl Broken {
     fn wrong_check(self) -> Option<Check> {
@@ -108,25 +110,31 @@ impl Broken {
 
     fn wrong_wear(self) -> Option<WearRule> {
         match self {
-            Broken::LostWearIsOne => {
-                Some(|_, now, edition, page| wear(page_at(now, page), edition).unwrap_or(0).saturating_add(1))
-            }
-            Broken::GreatestAtTheCall => Some(|at_call, _, edition, page| next_wear(at_call, edition, page)),
-            Broken::GreatestOfUsedPages => Some(|_, now, edition, page| {
-                let used = used_pages(now).into_iter().filter_map(|used| wear(page_at(now, used.page), edition));
-                wear(page_at(now, page), edition).or(used.max()).unwrap_or(0).saturating_add(1)
+            Broken::LostWearIsOne => Some(|_, now, chip, edition, page| {
+                wear(page_at(now, chip, page), edition).unwrap_or(0).saturating_add(1)
             }),
-            Broken::GreatestForEveryPage => Some(|_, now, edition, _| greatest_wear(now, edition).saturating_add(1)),
-            Broken::WearWraps => Some(|_, now, edition, page| {
-                wear(page_at(now, page), edition).unwrap_or_else(|| greatest_wear(now, edition)).wrapping_add(1)
+            Broken::GreatestAtTheCall => {
+                Some(|at_call, _, chip, edition, page| next_wear(at_call, chip, edition, page))
+            }
+            Broken::GreatestOfUsedPages => Some(|_, now, chip, edition, page| {
+                let wear_of = |page| wear(page_at(now, chip, page), edition);
+                let of_used = used_pages(now, chip).into_iter().filter_map(|used| wear_of(used.page));
+                wear_of(page).or(of_used.max()).unwrap_or(0).saturating_add(1)
+            }),
+            Broken::GreatestForEveryPage => {
+                Some(|_, now, chip, edition, _| greatest_wear(now, chip, edition).saturating_add(1))
+            }
+            Broken::WearWraps => Some(|_, now, chip, edition, page| {
+                let own = wear(page_at(now, chip, page), edition);
+                own.unwrap_or_else(|| greatest_wear(now, chip, edition)).wrapping_add(1)
             }),
             _ => None,
         }
     }
 
-    fn reworn(self, image: &[u8], steps: Vec<Step>) -> Vec<Step> {
+    fn reworn(self, image: &[u8], chip: Chip, steps: Vec<Step>) -> Vec<Step> {
         match self.wrong_wear() {
-            Some(rule) => with_wears(image, steps, rule),
+            Some(rule) => with_wears(image, chip, steps, rule),
             None => steps,
         }
     }
@@ -151,21 +159,21 @@ fn erase_first(steps: Vec<Step>) -> Vec<Step> {
     [before_done, &steps[first_erase..], done].concat()
 }
 
-fn old_after_new(image: &[u8], steps: Vec<Step>, address: u16, old: u8) -> Vec<Step> {
+fn old_after_new(image: &[u8], chip: Chip, steps: Vec<Step>, address: u16, old: u8) -> Vec<Step> {
     if !is_move(&steps) {
         return steps;
     }
-    let copied = held(image).len();
-    let (page, _) = cleared_pages(image)[0];
+    let copied = held(image, chip).len();
+    let (page, _) = cleared_pages(image, chip)[0];
     let (to_new, rest) = steps.split_at(2 + 2 * copied);
-    [to_new, &slot_steps(page, copied, record(address, old)), rest].concat()
+    [to_new, &slot_steps(chip, page, copied, record(address, old)), rest].concat()
 }
 
-fn wavering(steps: Vec<Step>, address: u16, old: u8, new: u8) -> Vec<Step> {
+fn wavering(chip: Chip, steps: Vec<Step>, address: u16, old: u8, new: u8) -> Vec<Step> {
     let &[Step::Program { offset, .. }, _] = &steps[..] else {
         return steps;
     };
-    if offset % PAGE_BYTES + 12 > PAGE_BYTES {
+    if offset % chip.page_bytes + 12 > chip.page_bytes {
         return steps;
     }
     let words = [record(address, new), record(address, old), record(address, new)];
@@ -173,18 +181,18 @@ fn wavering(steps: Vec<Step>, address: u16, old: u8, new: u8) -> Vec<Step> {
     offsets.iter().zip(words).flat_map(|(&offset, word)| program_word_steps(offset, word)).collect()
 }
 
-fn first_blank_slot(image: &[u8], steps: Vec<Step>, address: u16, value: u8) -> Vec<Step> {
-    let active = active_page(image).page;
-    let blank = (0..SLOTS).find(|&slot| is_blank(slot_word(page_at(image, active), slot)));
+fn first_blank_slot(image: &[u8], chip: Chip, steps: Vec<Step>, address: u16, value: u8) -> Vec<Step> {
+    let active = active_page(image, chip).page;
+    let blank = slot_words(page_at(image, chip, active)).position(is_blank);
     match blank {
-        Some(slot) if !steps.is_empty() => slot_steps(active, slot, record(address, value)).to_vec(),
+        Some(slot) if !steps.is_empty() => slot_steps(chip, active, slot, record(address, value)).to_vec(),
         _ => steps,
     }
 }
 
-fn add_done_words(image: &mut [u8]) {
-    let edition = edition(image);
-    for page in image.chunks_mut(PAGE_BYTES) {
+fn add_done_words(image: &mut [u8], chip: Chip) {
+    let edition = edition(image, chip);
+    for page in chip.pages_mut(image) {
         if state(page, edition) == State::Receiving {
             let (order, _) = order_and_kind_in(word_at(page, OPENING_OFFSET)).expect("a receiving page has an order");
             page[DONE_OFFSET..DONE_OFFSET + 4].copy_from_slice(&done_word(order));
@@ -192,9 +200,9 @@ fn add_done_words(image: &mut [u8]) {
     }
 }
 
-fn make_all_plain(image: &mut [u8]) {
-    let edition = edition(image);
-    for page in image.chunks_mut(PAGE_BYTES) {
+fn make_all_plain(image: &mut [u8], chip: Chip) {
+    let edition = edition(image, chip);
+    for page in chip.pages_mut(image) {
         if let State::Open { order, .. } = state(page, edition) {
             page[OPENING_OFFSET..OPENING_OFFSET + 4].copy_from_slice(&order_word(order, PLAIN));
         }
@@ -228,13 +236,14 @@ fn with_check(mut steps: Vec<Step>, check: Check) -> Vec<Step> {
 }
 
 /// The two steps of a wear word follow the erase in the list.
-fn with_wears(image: &[u8], mut steps: Vec<Step>, rule: WearRule) -> Vec<Step> {
-    let edition = edition(image);
+fn with_wears(image: &[u8], chip: Chip, mut steps: Vec<Step>, rule: WearRule) -> Vec<Step> {
+    let edition = edition(image, chip);
     let mut now = image.to_vec();
     for at in 0..steps.len() {
-        if let Step::Erase { page } = steps[at] {
-            let word = wear_word(rule(image, &now, edition, page), edition);
-            steps[at + 1..at + 3].copy_from_slice(&program_word_steps(page * PAGE_BYTES + WEAR_OFFSET, word));
+        if let Step::Erase { page, .. } = steps[at] {
+            let word = wear_word(rule(image, &now, chip, edition, page), edition);
+            let offset = chip.page_range(page).start + WEAR_OFFSET;
+            steps[at + 1..at + 3].copy_from_slice(&program_word_steps(offset, word));
         }
         do_step(&mut now, steps[at]);
     }
@@ -253,26 +262,26 @@ fn eagerly(allowance: u16) -> u16 {
 }
 
 impl Store for Eager {
-    fn format(&self, image: &mut [u8], edition: Edition) -> u8 {
-        Second.format(image, edition)
+    fn format(&self, image: &mut [u8], page_size: u16, second_edition: bool) -> u8 {
+        Second.format(image, page_size, second_edition)
     }
-    fn recover(&self, image: &mut [u8], allowance: u16) -> Stepped {
-        Second.recover(image, allowance)
+    fn recover(&self, image: &mut [u8], page_size: u16, allowance: u16) -> Stepped {
+        Second.recover(image, page_size, allowance)
     }
-    fn write(&self, image: &mut [u8], address: u16, value: u8, allowance: u16) -> Stepped {
-        Second.write(image, address, value, eagerly(allowance))
+    fn write(&self, image: &mut [u8], page_size: u16, address: u16, value: u8, allowance: u16) -> Stepped {
+        Second.write(image, page_size, address, value, eagerly(allowance))
     }
-    fn write_group(&self, image: &mut [u8], group: &[u8], allowance: u16) -> Stepped {
-        Second.write_group(image, group, eagerly(allowance))
+    fn write_group(&self, image: &mut [u8], page_size: u16, group: &[u8], allowance: u16) -> Stepped {
+        Second.write_group(image, page_size, group, eagerly(allowance))
     }
-    fn read(&self, image: &[u8], address: u16) -> Reading {
-        Second.read(image, address)
+    fn read(&self, image: &[u8], page_size: u16, address: u16) -> Reading {
+        Second.read(image, page_size, address)
     }
-    fn blank_read(&self, image: &[u8], address: u16) -> Reading {
-        Second.blank_read(image, address)
+    fn blank_read(&self, image: &[u8], page_size: u16, address: u16) -> Reading {
+        Second.blank_read(image, page_size, address)
     }
-    fn lookup(&self, image: &[u8]) -> Pairing {
-        Second.lookup(image)
+    fn lookup(&self, image: &[u8], page_size: u16) -> Pairing {
+        Second.lookup(image, page_size)
     }
 }
 
@@ -339,35 +348,36 @@ impl WrongPairing {
 }
 
 impl Store for WrongPairing {
-    fn format(&self, image: &mut [u8], edition: Edition) -> u8 {
-        Second.format(image, edition)
+    fn format(&self, image: &mut [u8], page_size: u16, second_edition: bool) -> u8 {
+        Second.format(image, page_size, second_edition)
     }
-    fn recover(&self, image: &mut [u8], allowance: u16) -> Stepped {
-        Second.recover(image, allowance)
+    fn recover(&self, image: &mut [u8], page_size: u16, allowance: u16) -> Stepped {
+        Second.recover(image, page_size, allowance)
     }
-    fn write(&self, image: &mut [u8], address: u16, value: u8, allowance: u16) -> Stepped {
-        let idle = *self == WrongPairing::BlankIsHeld && Second.blank_read(image, address).value == value;
-        let answer = Second.write(image, address, value, if idle { 0 } else { allowance });
+    fn write(&self, image: &mut [u8], page_size: u16, address: u16, value: u8, allowance: u16) -> Stepped {
+        let idle = *self == WrongPairing::BlankIsHeld && Second.blank_read(image, page_size, address).value == value;
+        let answer = Second.write(image, page_size, address, value, if idle { 0 } else { allowance });
         Stepped { finished: answer.finished || idle && answer.number == OK, ..answer }
     }
-    fn write_group(&self, image: &mut [u8], group: &[u8], allowance: u16) -> Stepped {
-        Second.write_group(image, group, allowance)
+    fn write_group(&self, image: &mut [u8], page_size: u16, group: &[u8], allowance: u16) -> Stepped {
+        Second.write_group(image, page_size, group, allowance)
     }
-    fn read(&self, image: &[u8], address: u16) -> Reading {
-        Second.read(image, address)
+    fn read(&self, image: &[u8], page_size: u16, address: u16) -> Reading {
+        Second.read(image, page_size, address)
     }
-    fn blank_read(&self, image: &[u8], address: u16) -> Reading {
-        match (self, Second.read(image, address)) {
+    fn blank_read(&self, image: &[u8], page_size: u16, address: u16) -> Reading {
+        match (self, Second.read(image, page_size, address)) {
             (WrongPairing::BlankIs255, Reading { number: NOT_HELD, .. }) => Reading { number: OK, value: 255 },
             (WrongPairing::BlankIsNotHeld, reading) => reading,
-            _ => Second.blank_read(image, address),
+            _ => Second.blank_read(image, page_size, address),
         }
     }
-    fn lookup(&self, image: &[u8]) -> Pairing {
-        if let Err(number) = test_store(image) {
-            return Pairing::refused(number);
-        }
-        let code = [16, 17, 18, 19].map(|address| value(image, address));
+    fn lookup(&self, image: &[u8], page_size: u16) -> Pairing {
+        let chip = match chip_named(page_size).and_then(|chip| test_store(image, chip).map(|()| chip)) {
+            Ok(chip) => chip,
+            Err(number) => return Pairing::refused(number),
+        };
+        let code = [16, 17, 18, 19].map(|address| value(image, chip, address));
         let blank = if *self == WrongPairing::DigitIs255 { 255 } else { 0 };
         Pairing { number: OK, paired: self.paired(code), digits: code.map(|digit| digit.unwrap_or(blank)) }
     }
@@ -435,8 +445,8 @@ impl WrongListing {
     }
 
     fn broken_words(self, image: &[u8]) -> (usize, usize) {
-        let edition = edition(image);
-        let pages = self.pages(image).into_iter().map(|page| page_at(image, page));
+        let edition = edition(image, SMALLER);
+        let pages = self.pages(image).into_iter().map(|page| page_at(image, SMALLER, page));
         let slots: Vec<Slot> = pages.flat_map(|page| self.slots(page, edition)).collect();
         let count = |wanted| slots.iter().filter(|&&slot| slot == wanted).count();
         let (half, spoiled) = (count(Slot::HalfWritten), count(Slot::Spoiled));
@@ -450,11 +460,11 @@ impl WrongListing {
 
     fn pages(self, image: &[u8]) -> Vec<usize> {
         match self {
-            WrongListing::EveryOpenPage => {
-                (0..page_count(image)).filter(|&page| matches!(states(image)[page], State::Open { .. })).collect()
-            }
-            WrongListing::ActivePageAlone => vec![active_page(image).page],
-            _ => used_pages(image).into_iter().map(|used| used.page).collect(),
+            WrongListing::EveryOpenPage => (0..page_count(image, SMALLER))
+                .filter(|&page| matches!(states(image, SMALLER)[page], State::Open { .. }))
+                .collect(),
+            WrongListing::ActivePageAlone => vec![active_page(image, SMALLER).page],
+            _ => used_pages(image, SMALLER).into_iter().map(|used| used.page).collect(),
         }
     }
 
@@ -467,7 +477,7 @@ impl WrongListing {
             WrongListing::MarksInBothEditions => slots_in_place(page, Edition::Second),
             WrongListing::EndOutsideIsSpoiled => ends_outside_spoiled(right),
             WrongListing::OthersOfAGroup => others_spoiled(right),
-            _ => (0..SLOTS).map(|slot| self.slot(right[slot], slot_word(page, slot), edition)).collect(),
+            _ => right.into_iter().zip(slot_words(page)).map(|(slot, word)| self.slot(slot, word, edition)).collect(),
         }
     }
 
@@ -506,7 +516,8 @@ fn ends_outside_spoiled(mut slots: Vec<Slot>) -> Vec<Slot> {
 fn others_spoiled(mut slots: Vec<Slot>) -> Vec<Slot> {
     for group in groups(&slots) {
         if !group.counts(&slots) {
-            let records = slots[group.inside()].iter_mut().filter(|slot| matches!(slot, Slot::Record { .. }));
+            let inside = group.inside(slots.len());
+            let records = slots[inside].iter_mut().filter(|slot| matches!(slot, Slot::Record { .. }));
             records.for_each(|slot| *slot = Slot::Spoiled);
         }
     }

@@ -1,5 +1,5 @@
-//! Which cases of groups and editions an image has, and which a group write is. The tests count them, so that a case that
-//! is never met is noticed.
+//! Which cases of groups, editions and page sizes an image has, and which a group write is. The tests count them by chips, so
+//! that a case that is never met is noticed.
 
 use std::collections::BTreeMap;
 
@@ -21,61 +21,152 @@ pub fn rare(counts: &Counts, least: u64) -> Vec<&'static str> {
 }
 
 /// Which editions the pages have, in an image that is accepted or not.
-pub fn note_editions(image: &[u8], counts: &mut Counts) {
-    let edition = edition(image);
-    let wear_words = image.chunks_exact(PAGE_BYTES).map(|page| word_at(page, WEAR_OFFSET));
+pub fn note_editions(image: &[u8], chip: Chip, counts: &mut Counts) {
+    let edition = edition(image, chip);
+    let wear_words = chip.pages(image).map(|page| word_at(page, WEAR_OFFSET));
     let third_bytes: Vec<u8> = wear_words.filter(|&word| is_sound(word)).map(|word| word[2]).collect();
-    let open: Vec<Edition> = image.chunks_exact(PAGE_BYTES).filter_map(open_by_itself).collect();
-    let accepted = test_store(image).is_ok();
+    let accepted = test_store(image, chip).is_ok();
     let has = |third_byte| accepted && third_bytes.contains(&third_byte);
-    note(counts, "store of edition 1", accepted && edition == Edition::First);
-    note(counts, "store of edition 2", accepted && edition == Edition::Second);
-    note(counts, "store of edition 1, page of edition 2", edition == Edition::First && has(2));
-    note(counts, "store of edition 2, page of edition 1", edition == Edition::Second && has(1));
     note(counts, "store with a page of edition 0", has(0));
-    note(counts, "store with a page of edition 3", has(3));
     note(counts, "store with a page of edition 255", has(255));
-    note(
-        counts,
-        "store with an open page of the other edition",
-        accepted && open.iter().any(|&other| other != edition),
-    );
-    note(counts, "open pages of lowest and highest index of two editions", accepted && open.last() != Some(&edition));
     if accepted {
-        let used = used_pages(image);
-        let lowest = image.chunks_exact(PAGE_BYTES).position(|page| open_by_itself(page).is_some());
-        let of_other =
-            image.chunks_exact(PAGE_BYTES).position(|page| open_by_itself(page).is_some_and(|e| e != edition));
-        let is_used = |page| used.iter().any(|used| Some(used.page) == page);
-        note(counts, "edition of a page that is not used", !is_used(lowest));
-        note(
-            counts,
-            "edition that turns while a page is renewed",
-            !is_used(lowest) && of_other.is_some_and(|other| used.iter().all(|used| used.page > other)),
-        );
         note(
             counts,
             "page that is cleared but for its edition",
-            image.chunks_exact(PAGE_BYTES).any(|page| {
+            chip.pages(image).any(|page| {
                 wear(page, edition).is_none()
                     && EDITIONS.iter().any(|&other| matches!(state(page, other), State::Cleared { .. }))
             }),
         );
     }
+    if chip == LARGER {
+        note(counts, "store of edition 3", accepted);
+        note(counts, "store of edition 3, page of edition 1", has(1));
+        note(counts, "store of edition 3, page of edition 2", has(2));
+        note(counts, "no store but for edition 1", would_be_open(image, chip, Edition::First));
+        note(counts, "no store but for edition 2", would_be_open(image, chip, Edition::Second));
+        return;
+    }
+    note(counts, "store of edition 1", accepted && edition == Edition::First);
+    note(counts, "store of edition 2", accepted && edition == Edition::Second);
+    note(counts, "store of edition 1, page of edition 2", edition == Edition::First && has(2));
+    note(counts, "store of edition 2, page of edition 1", edition == Edition::Second && has(1));
+    note(counts, "store with a page of edition 3", has(3));
+    note(counts, "no store but for edition 3", would_be_open(image, chip, Edition::Third));
+    if accepted {
+        note_two_editions(image, counts);
+    }
+}
+
+/// Whether there is no open page, but would be one in this edition.
+fn would_be_open(image: &[u8], chip: Chip, edition: Edition) -> bool {
+    let is_open = |page: &[u8]| matches!(state(page, edition), State::Open { .. });
+    used_pages(image, chip).is_empty() && chip.pages(image).any(is_open)
+}
+
+/// What an accepted store of the smaller chip has of its two editions.
+fn note_two_editions(image: &[u8], counts: &mut Counts) {
+    let edition = edition(image, SMALLER);
+    let open_editions: Vec<Option<Edition>> = SMALLER.pages(image).map(|page| open_by_itself(page, SMALLER)).collect();
+    let lowest = open_editions.iter().position(|open| open.is_some());
+    let of_other = open_editions.iter().position(|open| open.is_some_and(|open| open != edition));
+    let last = open_editions.iter().rev().find_map(|&open| open);
+    let used = used_pages(image, SMALLER);
+    let is_used = |page| used.iter().any(|used| Some(used.page) == page);
+    note(counts, "store with an open page of the other edition", of_other.is_some());
+    note(counts, "open pages of lowest and highest index of two editions", last != Some(edition));
+    note(counts, "edition of a page that is not used", !is_used(lowest));
+    note(
+        counts,
+        "edition that turns while a page is renewed",
+        !is_used(lowest) && of_other.is_some_and(|other| used.iter().all(|used| used.page > other)),
+    );
+}
+
+/// What the image is at the other size.
+pub fn note_other_size(image: &[u8], chip: Chip, counts: &mut Counts) {
+    let accepted = test_store(image, chip).is_ok();
+    let other = if chip == LARGER { SMALLER } else { LARGER };
+    let at_other = test_store(image, other);
+    note(counts, "at the other size SIZE", accepted && at_other == Err(SIZE));
+    note(counts, "at the other size NO STORE", accepted && at_other == Err(NO_STORE));
+    note(counts, "at the other size DAMAGED", accepted && at_other == Err(DAMAGED));
+    note(counts, "at the other size accepted", accepted && at_other.is_ok());
+    note(counts, "at the other size alone accepted", test_size(image, chip).is_ok() && !accepted && at_other.is_ok());
+    if accepted && at_other.is_ok() {
+        note_both_sizes(image, counts);
+    }
+}
+
+/// Which records of the larger chip pass for what at 1,024, in an image that is accepted at both sizes.
+fn note_both_sizes(image: &[u8], counts: &mut Counts) {
+    let used = used_pages(image, LARGER);
+    let used_at_smaller = used_pages(image, SMALLER);
+    // The header of a page of odd index is in the middle of a larger page.
+    let passes = |page: usize| page % 2 == 1 && used.iter().any(|used| used.page == page / 2);
+    let kind_of = |page: usize| match states(image, SMALLER)[page] {
+        State::Open { kind, .. } => kind,
+        _ => 0,
+    };
+    let passing: Vec<usize> = used_at_smaller.iter().map(|used| used.page).filter(|&page| passes(page)).collect();
+    note(counts, "records that pass for a header at 1,024", !passing.is_empty());
+    note(counts, "records that pass for two headers at 1,024", passing.len() > 1);
+    note(counts, "records that pass for a header of kind 1", passing.iter().any(|&page| kind_of(page) == PLAIN));
+    note(counts, "records that pass for a header of kind 2", passing.iter().any(|&page| kind_of(page) == RECEIVING));
+    note(counts, "records that pass for a cleared page", {
+        cleared_pages(image, SMALLER).iter().any(|&(page, _)| passes(page))
+    });
+    note(counts, "other settings at the other size", held(image, SMALLER) != held(image, LARGER));
+}
+
+/// Where records and free slots are, in a store that is accepted.
+pub fn note_slots(image: &[u8], chip: Chip, counts: &mut Counts) {
+    let edition = edition(image, chip);
+    let last = chip.slots() - 1;
+    let used = used_pages(image, chip);
+    let free = free_slots(page_at(image, chip, used[0].page));
+    note(counts, "free slot is the last", free.start == last);
+    note(counts, "no free slot", free.is_empty());
+    for used in used {
+        let slots = slots(page_at(image, chip, used.page), edition);
+        let counting = counting(&slots);
+        let has_record = |place: usize| counting[place] && matches!(slots[place], Slot::Record { .. });
+        note(counts, "record in the last slot that counts", has_record(last));
+        if edition.has_groups() {
+            let closes = groups(&slots).iter().any(|group| group.end == Some(last) && group.counts(&slots));
+            note(counts, "last slot closes a group that counts", closes);
+        }
+        if chip == LARGER {
+            let middle = SMALLER.slots();
+            let over = |group: &Group| group.begin < middle && group.end >= Some(middle) && group.counts(&slots);
+            note(counts, "record behind slot 252 that counts", (middle..=last).any(has_record));
+            note(counts, "group that counts over offset 1,024", groups(&slots).iter().any(over));
+        }
+    }
+    if chip == LARGER {
+        let mut front = image.to_vec();
+        LARGER.pages_mut(&mut front).for_each(|page| page[SMALLER.page_bytes..].fill(255));
+        let fewer_held = held(&front, chip).len() < held(image, chip).len();
+        let more_cleared = cleared_pages(&front, chip).len() > cleared_pages(image, chip).len();
+        note(counts, "free slot behind slot 252", (SMALLER.slots()..=last).contains(&free.start));
+        note(counts, "setting that only records behind slot 252 name", fewer_held);
+        note(counts, "page that is cleared but for a byte behind offset 1,024", more_cleared);
+    }
 }
 
 /// Which groups the used pages have, in a store that is accepted.
-pub fn note_groups(image: &[u8], counts: &mut Counts) {
-    let used = used_pages(image);
+pub fn note_groups(image: &[u8], chip: Chip, counts: &mut Counts) {
+    let used = used_pages(image, chip);
     for (index, used) in used.iter().enumerate() {
-        let page = page_at(image, used.page);
-        match edition(image) {
-            Edition::First => note_marks_of_first(page, counts),
-            Edition::Second => note_groups_of_page(page, index == 0, counts),
+        let page = page_at(image, chip, used.page);
+        if edition(image, chip).has_groups() {
+            note_groups_of_page(page, index == 0, counts);
+        } else {
+            note_marks_of_first(page, counts);
         }
     }
-    let held = held(image);
-    let everywhere = used.iter().flat_map(|used| slots(page_at(image, used.page), Edition::Second));
+    let held = held(image, chip);
+    let everywhere = used.iter().flat_map(|used| slots(page_at(image, chip, used.page), Edition::Second));
     let only_in_groups =
         everywhere.into_iter().any(|slot| matches!(slot, Slot::Record { address, .. } if !held.contains_key(&address)));
     note(counts, "address that only records name which don't count", only_in_groups);
@@ -91,6 +182,7 @@ fn note_marks_of_first(page: &[u8], counts: &mut Counts) {
     note(counts, "edition 1, what would be a group that doesn't count", lost);
 }
 
+/// Marks mean the same in every edition that has them.
 fn note_groups_of_page(page: &[u8], active: bool, counts: &mut Counts) {
     let slots = slots_in_place(page, Edition::Second);
     let groups = groups(&slots);
@@ -98,11 +190,11 @@ fn note_groups_of_page(page: &[u8], active: bool, counts: &mut Counts) {
         note_group(page, &slots, *group, counts);
     }
     let ends: Vec<usize> = groups.iter().filter_map(|group| group.end).collect();
-    let outside = |mark: fn(Slot) -> bool| (0..SLOTS).any(|place| mark(slots[place]) && !ends.contains(&place));
+    let outside = |mark: fn(Slot) -> bool| (0..slots.len()).any(|place| mark(slots[place]) && !ends.contains(&place));
     note(counts, "mark that closes outside a group", outside(|slot| matches!(slot, Slot::Mark(Mark::Closes(_)))));
     note(counts, "mark that abandons outside a group", outside(|slot| slot == Slot::Mark(Mark::Abandons)));
-    let values = (0..SLOTS).map(|slot| slot_word(page, slot)).filter(|&word| is_sound(word) && word[..2] == [255, 255]);
-    let values: Vec<u8> = values.map(|word| word[2]).collect();
+    let without_address = slot_words(page).filter(|&word| is_sound(word) && word[..2] == [255, 255]);
+    let values: Vec<u8> = without_address.map(|word| word[2]).collect();
     note(counts, "value 9 to 128, which no mark has", values.iter().any(|value| (9..=128).contains(value)));
     note(counts, "value 137 to 255, which no mark has", values.iter().any(|value| (137..=255).contains(value)));
     let open = has_open_group(page, Edition::Second);
@@ -113,7 +205,7 @@ fn note_groups_of_page(page: &[u8], active: bool, counts: &mut Counts) {
 }
 
 fn note_group(page: &[u8], slots: &[Slot], group: Group, counts: &mut Counts) {
-    let inside = &slots[group.inside()];
+    let inside = &slots[group.inside(slots.len())];
     let counted = group.counts(slots);
     let has = |wanted: fn(&Slot) -> bool| inside.iter().any(wanted);
     let addresses: Vec<Option<u16>> = inside
@@ -143,7 +235,7 @@ fn note_group(page: &[u8], slots: &[Slot], group: Group, counts: &mut Counts) {
     note(counts, "group with a spoiled slot inside", closed && has(|&slot| slot == Slot::Spoiled));
     note(counts, "group with a half-written slot inside", closed && has(|&slot| slot == Slot::HalfWritten));
     note(counts, "group with a blank slot inside", closed && has(|&slot| slot == Slot::Blank));
-    let words = || group.inside().map(|slot| slot_word(page, slot));
+    let words = || group.inside(slots.len()).map(|slot| slot_word(page, slot));
     let nested = words().any(|word| matches!(slot_in(word, Edition::Second), Slot::Mark(Mark::Opens(_))));
     let no_mark = words().any(|word| is_sound(word) && slot_in(word, Edition::Second) == Slot::Spoiled);
     note(counts, "group with a mark that opens inside", nested);
@@ -151,7 +243,7 @@ fn note_group(page: &[u8], slots: &[Slot], group: Group, counts: &mut Counts) {
 }
 
 /// Which case the group write of these bytes is, by its image and its answer.
-pub fn note_group_write(image: &[u8], bytes: &[u8], answer: Stepped, counts: &mut Counts) {
+pub fn note_group_write(image: &[u8], chip: Chip, bytes: &[u8], answer: Stepped, counts: &mut Counts) {
     const LENGTHS: [(usize, &str); 9] = [
         (0, "group write of 0 bytes"),
         (1, "group write of 1 byte"),
@@ -167,37 +259,37 @@ pub fn note_group_write(image: &[u8], bytes: &[u8], answer: Stepped, counts: &mu
     let change = Change::group(bytes);
     let settings = change.settings();
     let accepted = !matches!(answer.number, SIZE | NO_STORE | DAMAGED);
-    let second = accepted && edition(image) == Edition::Second;
+    let has_groups = accepted && edition(image, chip).has_groups();
     for (length, case) in LENGTHS {
-        note(counts, case, second && refused_as_group && bytes.len() == length);
+        note(counts, case, has_groups && refused_as_group && bytes.len() == length);
     }
     let wrong_address = change.names(NO_ADDRESS);
-    note(counts, "group write, an address twice", second && refused_as_group && (2..=8).contains(&settings.len()));
-    note(counts, "group write, GROUP with address 65,535", second && refused_as_group && wrong_address);
+    note(counts, "group write, an address twice", has_groups && refused_as_group && (2..=8).contains(&settings.len()));
+    note(counts, "group write, GROUP with address 65,535", has_groups && refused_as_group && wrong_address);
     note(counts, "group write, ADDRESS", answer.number == ADDRESS);
     note(counts, "group write, ADDRESS of another than the first", {
         answer.number == ADDRESS && settings[0].0 != NO_ADDRESS
     });
-    if !second || refused_as_group || wrong_address || answer.number == UNCLEAN {
+    if !has_groups || refused_as_group || wrong_address || answer.number == UNCLEAN {
         return;
     }
-    note_tested_group(image, &change, answer, counts);
+    note_tested_group(image, chip, &change, answer, counts);
 }
 
 /// The same of a group that is tested for NO ROOM and ORDER END, or whose values are all held.
-fn note_tested_group(image: &[u8], change: &Change, answer: Stepped, counts: &mut Counts) {
-    let held = held(image);
+fn note_tested_group(image: &[u8], chip: Chip, change: &Change, answer: Stepped, counts: &mut Counts) {
+    let held = held(image, chip);
     let settings = change.settings();
     let named = settings.iter().filter(|(address, _)| held.contains_key(address)).count();
     let new = settings.len() - named;
     let unchanged = settings.iter().filter(|(address, value)| held.get(address) == Some(value)).count();
     let all_held = unchanged == settings.len();
-    let active = active_page(image);
-    let free = free_slots(page_at(image, active.page)).len();
+    let active = active_page(image, chip);
+    let free = free_slots(page_at(image, chip, active.page)).len();
     let taken = change.words().len();
     let at_the_end = active.order == LAST_ORDER && free < taken;
     let accepted = answer.number == OK && !all_held;
-    let one_cleared = cleared_pages(image).len() == 1;
+    let one_cleared = cleared_pages(image, chip).len() == 1;
     note(counts, "group write, all values held", all_held);
     note(counts, "group write, all values held at the last order", all_held && at_the_end);
     note(counts, "group write, all values held and 192 held", all_held && held.len() == MOST_HELD);

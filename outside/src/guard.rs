@@ -4,7 +4,7 @@ use std::cell::RefCell;
 use std::ffi::{c_int, c_void};
 use std::sync::atomic::{AtomicU64, Ordering};
 
-use crate::{Edition, Pairing, Reading, Stepped, Store};
+use crate::{Pairing, Reading, Stepped, Store};
 
 extern "C" {
     fn mmap(
@@ -30,8 +30,8 @@ const PRIVATE_ANONYMOUS: c_int = 2 | 0x20;
 const SEGMENTATION_FAULT: c_int = 11;
 const BUS_ERROR: c_int = 7;
 
-/// No image of the tests is longer.
-const MOST_BYTES: usize = 64 * 1024;
+/// No image of the tests is longer: 32 pages of the larger chip have half of it.
+pub const MOST_BYTES: usize = 128 * 1024;
 /// What stands beside the image on the side without the guard, and how far.
 const FENCE: u8 = 0xA7;
 const FENCE_BYTES: usize = 64;
@@ -138,28 +138,28 @@ impl<S: Store> Guarded<S> {
 }
 
 impl<S: Store> Store for Guarded<S> {
-    fn format(&self, image: &mut [u8], edition: Edition) -> u8 {
-        self.call(image, |store, lent| store.format(lent, edition))
+    fn format(&self, image: &mut [u8], page_size: u16, second_edition: bool) -> u8 {
+        self.call(image, |store, lent| store.format(lent, page_size, second_edition))
     }
-    fn recover(&self, image: &mut [u8], allowance: u16) -> Stepped {
-        self.call(image, |store, lent| store.recover(lent, allowance))
+    fn recover(&self, image: &mut [u8], page_size: u16, allowance: u16) -> Stepped {
+        self.call(image, |store, lent| store.recover(lent, page_size, allowance))
     }
-    fn write(&self, image: &mut [u8], address: u16, value: u8, allowance: u16) -> Stepped {
-        self.call(image, |store, lent| store.write(lent, address, value, allowance))
+    fn write(&self, image: &mut [u8], page_size: u16, address: u16, value: u8, allowance: u16) -> Stepped {
+        self.call(image, |store, lent| store.write(lent, page_size, address, value, allowance))
     }
-    fn write_group(&self, image: &mut [u8], group: &[u8], allowance: u16) -> Stepped {
+    fn write_group(&self, image: &mut [u8], page_size: u16, group: &[u8], allowance: u16) -> Stepped {
         self.for_groups.borrow_mut().show_copy(group, self.place, |group| {
-            self.call(image, |store, lent| store.write_group(lent, group, allowance))
+            self.call(image, |store, lent| store.write_group(lent, page_size, group, allowance))
         })
     }
-    fn read(&self, image: &[u8], address: u16) -> Reading {
-        self.look(image, |store, lent| store.read(lent, address))
+    fn read(&self, image: &[u8], page_size: u16, address: u16) -> Reading {
+        self.look(image, |store, lent| store.read(lent, page_size, address))
     }
-    fn blank_read(&self, image: &[u8], address: u16) -> Reading {
-        self.look(image, |store, lent| store.blank_read(lent, address))
+    fn blank_read(&self, image: &[u8], page_size: u16, address: u16) -> Reading {
+        self.look(image, |store, lent| store.blank_read(lent, page_size, address))
     }
-    fn lookup(&self, image: &[u8]) -> Pairing {
-        self.look(image, |store, lent| store.lookup(lent))
+    fn lookup(&self, image: &[u8], page_size: u16) -> Pairing {
+        self.look(image, |store, lent| store.lookup(lent, page_size))
     }
 }
 

@@ -8,35 +8,73 @@ use crate::steps::*;
 use crate::word::*;
 use crate::{format, recover, write, write_group};
 
-const WRONG_LENGTHS: [usize; 17] =
-    [0, 1, 2, 3, 512, 1023, 1024, 1025, 2047, 2049, 3071, 3073, 32_767, 32_769, 33_792, 34_816, 65_536];
+/// Lengths that no store of the smaller chip has, and none of the larger.
+const WRONG_LENGTHS: [&[usize]; 2] = [
+    &[0, 1, 2, 3, 512, 1023, 1024, 1025, 2047, 2049, 3071, 3073, 32_767, 32_769, 33_792, 34_816, 65_536],
+    &[
+        0, 1, 1024, 2047, 2048, 2049, 3072, 4095, 4097, 5120, 33_792, 64_512, 65_535, 65_537, 66_560, 67_584, 69_632,
+        131_072,
+    ],
+];
+/// Page sizes that no chip has.
+pub const WRONG_SIZES: [u16; 18] =
+    [0, 1, 4, 8, 256, 512, 1_023, 1_025, 1_026, 1_536, 2_047, 2_049, 2_050, 3_072, 4_096, 8_192, 32_768, 65_535];
 const WEARS: [u16; 9] = [0, 1, 1, 2, 3, 258, 65_533, 65_534, 65_535];
 const HELD_COUNTS: [usize; 12] = [0, 1, 2, 5, 20, 60, 191, 192, 192, 193, 194, 230];
 
-/// The image of this seed.
-pub fn image(seed: u64) -> Vec<u8> {
+/// The chip and the image of this seed.
+pub fn image(seed: u64) -> (Chip, Vec<u8>) {
+    let chip = chip_of(seed);
+    (chip, image_of(chip, seed))
+}
+
+/// The larger chip has fewer seeds, because its images are slow.
+pub fn chip_of(seed: u64) -> Chip {
+    // Another number than the one that the image is made from.
+    if Rng::new(seed ^ 1 << 40).one_in(4) {
+        LARGER
+    } else {
+        SMALLER
+    }
+}
+
+/// The image of this seed on this chip.
+pub fn image_of(chip: Chip, seed: u64) -> Vec<u8> {
     let mut rng = Rng::new(seed);
     let rng = &mut rng;
     let mut image = match rng.below(100) {
-        0..=24 => worn(rng),
-        25..=29 => paired(rng),
-        30..=61 => sensible(rng),
-        62..=66 => worn_unevenly(rng),
-        67..=77 => wild(rng),
-        78..=79 => of_two_editions(rng),
-        80..=89 => flipped(rng),
-        90..=94 => random_bytes(rng),
-        _ => wrong_length(rng),
+        0..=24 => worn(chip, rng),
+        25..=29 => paired(chip, rng),
+        30..=59 => sensible(chip, rng),
+        60..=61 => of_both_chips(rng),
+        62..=66 => worn_unevenly(chip, rng),
+        67..=77 => wild(chip, rng),
+        78..=79 if chip == LARGER => passing_for_headers(rng),
+        78..=79 => of_two_editions(chip, rng),
+        80..=89 => flipped(chip, rng),
+        90..=94 if chip == SMALLER || rng.one_in(2) => random_bytes(chip, rng),
+        _ => wrong_length(chip, rng),
     };
     if rng.one_in(10) {
-        mix_editions(&mut image, rng);
+        mix_editions(&mut image, chip, rng);
     }
     image
 }
 
-/// Small stores most often, because they are fast.
-fn some_page_count(rng: &mut Rng) -> usize {
-    match rng.below(100) {
+/// Small stores most often, because they are fast. 16 pages of the larger chip are as long as 32 of the smaller.
+fn some_page_count(chip: Chip, rng: &mut Rng) -> usize {
+    let place = rng.below(100);
+    if chip == LARGER {
+        return match place {
+            0..=59 => 2,
+            60..=91 => 3,
+            92..=95 => 4 + rng.below(4),
+            96..=97 => 8,
+            98 => rng.pick(&[16, 17, 31]),
+            _ => 32,
+        };
+    }
+    match place {
         0..=53 => 2,
         54..=86 => 3,
         87..=90 => 4 + rng.below(4),
@@ -97,19 +135,18 @@ pub fn some_group(pool: &[u16], count: usize, rng: &mut Rng) -> Vec<Setting> {
 
 // Worn stores: what our own calls leave, with failing steps among them.
 
-fn worn(rng: &mut Rng) -> Vec<u8> {
-    let pages = some_page_count(rng);
-    let mut image = vec![rng.byte(); pages * PAGE_BYTES];
-    let edition = rng.pick(&EDITIONS);
-    format(&mut image, edition);
+fn worn(chip: Chip, rng: &mut Rng) -> Vec<u8> {
+    let pages = some_page_count(chip, rng);
+    let mut image = formatted(chip, pages, rng);
     let count = rng.pick(&[2, 5, 12, 40, 192]);
     let pool = some_addresses(rng, count);
     for _ in 0..1 + rng.below(pages + 4) {
-        let count = if rng.one_in(3) { rng.below(SLOTS) } else { SLOTS - rng.below(12) };
-        fill_active(&mut image, count, &pool, rng);
+        let slots = chip.slots();
+        let count = if rng.one_in(3) { rng.below(slots) } else { slots - rng.below(12) };
+        fill_active(&mut image, chip, count, &pool, rng);
         for _ in 0..1 + rng.below(3) {
-            let change = some_change(&image, &pool, rng);
-            if !troubled_change(&mut image, &change, rng) {
+            let change = some_change(&image, chip, &pool, rng);
+            if !troubled_change(&mut image, chip, &change, rng) {
                 return image;
             }
         }
@@ -117,24 +154,31 @@ fn worn(rng: &mut Rng) -> Vec<u8> {
     image
 }
 
-/// A single setting or, in the second edition, most often a group.
-pub fn some_change(image: &[u8], pool: &[u16], rng: &mut Rng) -> Change {
-    if edition(image) == Edition::First || rng.one_in(4) {
+/// What a format leaves; on the smaller chip in either edition.
+fn formatted(chip: Chip, pages: usize, rng: &mut Rng) -> Vec<u8> {
+    let mut image = vec![rng.byte(); pages * chip.page_bytes];
+    format(&mut image, chip.page_size(), rng.one_in(2));
+    image
+}
+
+/// A single setting or, where there are groups, most often a group.
+pub fn some_change(image: &[u8], chip: Chip, pool: &[u16], rng: &mut Rng) -> Change {
+    if !edition(image, chip).has_groups() || rng.one_in(4) {
         return Change::Single((rng.pick(pool), some_value(rng)));
     }
-    let free = free_slots(page_at(image, active_page(image).page)).len();
+    let free = free_slots(page_at(image, chip, active_page(image, chip).page)).len();
     let count = some_group_size(free, rng);
     Change::Group(some_group(pool, count, rng))
 }
 
 /// What writes to the pool's addresses would do with `count` slots, as far as the active page has room; groups are among
-/// them in the second edition. Each changes a value, because a write of held values takes no slot.
-pub fn fill_active(image: &mut [u8], count: usize, pool: &[u16], rng: &mut Rng) {
-    let mut values = held(image);
-    let has_groups = edition(image) == Edition::Second;
-    let active = active_page(image).page;
-    let mut free = free_slots(page_at(image, active));
-    free.end = SLOTS.min(free.start + count);
+/// them where there are any. Each changes a value, because a write of held values takes no slot.
+pub fn fill_active(image: &mut [u8], chip: Chip, count: usize, pool: &[u16], rng: &mut Rng) {
+    let mut values = held(image, chip);
+    let has_groups = edition(image, chip).has_groups();
+    let active = active_page(image, chip).page;
+    let mut free = free_slots(page_at(image, chip, active));
+    free.end = free.end.min(free.start + count);
     while !free.is_empty() {
         let grouped = has_groups && rng.one_in(20);
         let count = 1 + rng.below(MOST_IN_A_GROUP);
@@ -143,7 +187,7 @@ pub fn fill_active(image: &mut [u8], count: usize, pool: &[u16], rng: &mut Rng) 
         *value = another_value(values.get(address).copied(), rng);
         let (single, group) = (Change::Single(settings[0]), Change::Group(settings));
         let change = if grouped && group.words().len() <= free.len() { group } else { single };
-        let steps = slots_steps(active, free.start, &change.words());
+        let steps = slots_steps(chip, active, free.start, &change.words());
         steps.iter().for_each(|&step| do_step(image, step));
         free.start += change.words().len();
         values.extend(change.settings().iter().copied());
@@ -151,8 +195,8 @@ pub fn fill_active(image: &mut [u8], count: usize, pool: &[u16], rng: &mut Rng) 
 }
 
 /// A change in which power may fail, and recoveries in which it may. False if the image was left unrecovered.
-fn troubled_change(image: &mut [u8], change: &Change, rng: &mut Rng) -> bool {
-    let Ok(steps) = change_steps(image, change) else {
+fn troubled_change(image: &mut [u8], chip: Chip, change: &Change, rng: &mut Rng) -> bool {
+    let Ok(steps) = change_steps(image, chip, change) else {
         return false;
     };
     if rng.one_in(2) || steps.is_empty() {
@@ -162,18 +206,18 @@ fn troubled_change(image: &mut [u8], change: &Change, rng: &mut Rng) -> bool {
     let at = if rng.one_in(2) { rng.below(steps.len()) } else { steps.len() - 1 - rng.below(steps.len().min(12)) };
     cut(image, &steps, at, rng);
     while !rng.one_in(3) {
-        let steps = recovery_steps(image).expect("a failed write leaves a store that recovers");
+        let steps = recovery_steps(image, chip).expect("a failed write leaves a store that recovers");
         if !steps.is_empty() {
             let at = rng.below(steps.len());
             cut(image, &steps, at, rng);
         }
     }
-    !rng.one_in(6) && recover(image, u16::MAX).finished
+    !rng.one_in(6) && recover(image, chip.page_size(), u16::MAX).finished
 }
 
 /// A worn store that was then paired, if it took the writes: often with one digit four times, or with some left out.
-fn paired(rng: &mut Rng) -> Vec<u8> {
-    let mut image = worn(rng);
+fn paired(chip: Chip, rng: &mut Rng) -> Vec<u8> {
+    let mut image = worn(chip, rng);
     let any = some_value(rng);
     let usual = rng.pick(&[0, 255, any]);
     let mut code = Vec::new();
@@ -183,11 +227,36 @@ fn paired(rng: &mut Rng) -> Vec<u8> {
             code.push((address, digit));
         }
     }
-    if edition(&image) == Edition::Second && rng.one_in(2) {
-        write_group(&mut image, &group_bytes(&code), u16::MAX);
+    if edition(&image, chip).has_groups() && rng.one_in(2) {
+        write_group(&mut image, chip.page_size(), &group_bytes(&code), u16::MAX);
     } else {
         for (address, digit) in code {
-            write(&mut image, address, digit, u16::MAX);
+            write(&mut image, chip.page_size(), address, digit, u16::MAX);
+        }
+    }
+    image
+}
+
+/// A store of the larger chip whose writes, all of them finished, made what at 1,024 is the header of an open page: in the
+/// middle of a larger page one of the smaller chip begins.
+fn passing_for_headers(rng: &mut Rng) -> Vec<u8> {
+    let pages = some_page_count(LARGER, rng);
+    let mut image = formatted(LARGER, pages, rng);
+    let pool = some_addresses(rng, 20);
+    for order in 0..1 + rng.below(pages) as u32 {
+        let taken = free_slots(page_at(&image, LARGER, active_page(&image, LARGER).page)).start;
+        fill_active(&mut image, LARGER, SMALLER.slots().saturating_sub(taken), &pool, rng);
+        let kind = rng.pick(&[PLAIN, PLAIN, RECEIVING]);
+        let wear = wear_word(300 + order as u16, rng.pick(SMALLER.editions));
+        for [low, high, value, _] in [wear, order_word(order, kind), done_word(order)] {
+            write(&mut image, LARGER.page_size(), u16::from_le_bytes([low, high]), value, u16::MAX);
+        }
+        let count = if rng.one_in(4) { rng.below(LARGER.slots()) } else { LARGER.slots() };
+        fill_active(&mut image, LARGER, count, &pool, rng);
+        let change = some_change(&image, LARGER, &pool, rng);
+        troubled_change(&mut image, LARGER, &change, rng);
+        if recover(&mut image, LARGER.page_size(), u16::MAX).number != OK {
+            break;
         }
     }
     image
@@ -199,21 +268,21 @@ fn cut(image: &mut [u8], steps: &[Step], at: usize, rng: &mut Rng) {
     fail_somehow(image, steps[at], rng);
 }
 
-// Crafted pages. They are made in the first edition and then, as often as not, put into the second.
+// Crafted pages. They are made in the chip's first edition and then, as often as not, put into its second, if it has one.
 
 fn put(page: &mut [u8], offset: usize, word: Word) {
     page[offset..offset + 4].copy_from_slice(&word);
 }
 
-fn cleared_page(rng: &mut Rng) -> Vec<u8> {
-    let mut page = vec![255; PAGE_BYTES];
-    put(&mut page, WEAR_OFFSET, wear_word(rng.pick(&WEARS), Edition::First));
+fn cleared_page(chip: Chip, rng: &mut Rng) -> Vec<u8> {
+    let mut page = vec![255; chip.page_bytes];
+    put(&mut page, WEAR_OFFSET, wear_word(rng.pick(&WEARS), chip.editions[0]));
     page
 }
 
 /// An open page without records; of a plain page the third header word may be anything.
-fn open_page(order: u32, kind: u32, rng: &mut Rng) -> Vec<u8> {
-    let mut page = cleared_page(rng);
+fn open_page(chip: Chip, order: u32, kind: u32, rng: &mut Rng) -> Vec<u8> {
+    let mut page = cleared_page(chip, rng);
     put(&mut page, OPENING_OFFSET, order_word(order, kind));
     if kind == RECEIVING {
         put(&mut page, DONE_OFFSET, done_word(order));
@@ -267,32 +336,37 @@ fn half_written_word(word: Word) -> Word {
     [word[0], word[1], 255, 255]
 }
 
-/// The pages in the first edition, or in the second: then those that were to be of the second are of the first.
-fn in_some_edition(pages: Vec<Vec<u8>>, rng: &mut Rng) -> Vec<u8> {
+/// The pages in the first edition, or in the second if there is one: then those that were to be of the second are of the
+/// first.
+fn in_some_edition(chip: Chip, pages: Vec<Vec<u8>>, rng: &mut Rng) -> Vec<u8> {
     let mut image = pages.concat();
-    if rng.one_in(2) {
-        swap_editions(&mut image);
+    if let ([first, second], true) = (chip.editions, rng.one_in(2)) {
+        for page in chip.pages_mut(&mut image) {
+            swap_editions(page, *first, *second);
+        }
     }
     image
 }
 
-fn swap_editions(image: &mut [u8]) {
-    for page in image.chunks_exact_mut(PAGE_BYTES) {
-        let [first, second] = EDITIONS.map(|edition| wear(page, edition));
-        if let Some(wear) = first {
-            put(page, WEAR_OFFSET, wear_word(wear, Edition::Second));
-        } else if let Some(wear) = second {
-            put(page, WEAR_OFFSET, wear_word(wear, Edition::First));
-        }
+fn swap_editions(page: &mut [u8], first: Edition, second: Edition) {
+    if let Some(wear) = wear(page, first) {
+        put(page, WEAR_OFFSET, wear_word(wear, second));
+    } else if let Some(wear) = wear(page, second) {
+        put(page, WEAR_OFFSET, wear_word(wear, first));
     }
 }
 
-/// Gives some of the wear words another third byte: often the other edition's.
-fn mix_editions(image: &mut [u8], rng: &mut Rng) {
-    for page in image.chunks_exact_mut(PAGE_BYTES) {
+/// Gives some of the wear words, or all, another third byte: often that of another edition, of this chip or of none.
+fn mix_editions(image: &mut [u8], chip: Chip, rng: &mut Rng) {
+    let rarity = rng.pick(&[1, 3, 3, 3]);
+    for page in chip.pages_mut(image) {
         let [low, high, third, _] = word_at(page, WEAR_OFFSET);
-        if is_sound(word_at(page, WEAR_OFFSET)) && rng.one_in(3) {
-            let other = if rng.one_in(4) { rng.pick(&[0, 3, 255]) } else { third ^ 3 };
+        if is_sound(word_at(page, WEAR_OFFSET)) && rng.one_in(rarity) {
+            let other = match third {
+                _ if rng.one_in(4) => rng.pick(&[0, 3, 255]),
+                1 | 2 => third ^ 3,
+                _ => rng.pick(&[1, 2]),
+            };
             put(page, WEAR_OFFSET, sound_word([low, high, other]));
         }
     }
@@ -394,28 +468,56 @@ fn fill_slots(page: &mut [u8], count: usize, pool: &[u16], rng: &mut Rng) {
     }
 }
 
-/// The slots of a page, of these first ones, in which a record counts in either edition.
+/// The slots of a page, of these first ones, in which a record counts in every edition.
 fn counting_slots(page: &[u8], count: usize) -> Vec<usize> {
     let slots = slots(page, Edition::Second);
     let groups = groups(&slots);
     let is_free = |&slot: &usize| {
-        !matches!(slots[slot], Slot::Mark(_)) && !groups.iter().any(|group| group.inside().contains(&slot))
+        !matches!(slots[slot], Slot::Mark(_)) && !groups.iter().any(|group| group.inside(slots.len()).contains(&slot))
     };
     (0..count).filter(is_free).collect()
 }
 
 /// A store as the rules want it, but with orders, wears, counts and other pages at their ends.
-fn sensible(rng: &mut Rng) -> Vec<u8> {
-    let pages = some_page_count(rng);
+fn sensible(chip: Chip, rng: &mut Rng) -> Vec<u8> {
+    let pages = some_page_count(chip, rng);
+    let pages = sensible_pages(chip, pages, rng);
+    in_some_edition(chip, pages, rng)
+}
+
+fn sensible_pages(chip: Chip, pages: usize, rng: &mut Rng) -> Vec<Vec<u8>> {
     let used = if rng.one_in(2) { pages - 1 } else { 1 + rng.below(pages - 1) };
     let orders = rising_orders(used, rng);
     let based = rng.one_in(2);
-    let mut all = used_pages_of(&orders, based, rng);
+    let mut all = used_pages_of(chip, &orders, based, rng);
     while all.len() < pages {
-        all.push(if rng.one_in(4) { other_page(orders[0], based, rng) } else { cleared_page(rng) });
+        all.push(if rng.one_in(4) { other_page(chip, orders[0], based, rng) } else { cleared_page(chip, rng) });
     }
     rng.shuffle(&mut all);
-    in_some_edition(all, rng)
+    all
+}
+
+/// A store of the larger chip in the second halves of whose pages stand the pages of one of the smaller chip, or pages of
+/// one order. So the slots of the one have the other's headers; but a page that is cleared at 2,048 stays so, as often as not.
+fn of_both_chips(rng: &mut Rng) -> Vec<u8> {
+    let count = rng.pick(&[2, 2, 3, 3, 4, 16]);
+    let mut pages = sensible_pages(LARGER, count, rng);
+    let others = match rng.below(6) {
+        0 => wild_pages(SMALLER, count, rng),
+        1 => {
+            let order = some_order(rng);
+            vec![used_pages_of(SMALLER, &[order], false, rng).concat(); count]
+        }
+        _ => sensible_pages(SMALLER, count, rng),
+    };
+    let others = in_some_edition(SMALLER, others, rng);
+    for (page, other) in pages.iter_mut().zip(SMALLER.pages(&others)) {
+        let stays = matches!(state(page, Edition::Third), State::Cleared { .. }) && rng.one_in(2);
+        if !stays {
+            page[SMALLER.page_bytes..].copy_from_slice(other);
+        }
+    }
+    pages.concat()
 }
 
 fn rising_orders(count: usize, rng: &mut Rng) -> Vec<u32> {
@@ -432,18 +534,18 @@ fn rising_orders(count: usize, rng: &mut Rng) -> Vec<u32> {
 }
 
 /// Pages of these orders that together hold one of the counts in HELD_COUNTS, if they have room for it.
-fn used_pages_of(orders: &[u32], based: bool, rng: &mut Rng) -> Vec<Vec<u8>> {
+fn used_pages_of(chip: Chip, orders: &[u32], based: bool, rng: &mut Rng) -> Vec<Vec<u8>> {
     let held = rng.pick(&HELD_COUNTS);
     let pool = some_addresses(rng, held);
     let mut all = Vec::new();
     let mut places = Vec::new();
     for (index, &order) in orders.iter().enumerate() {
         let kind = if index == 0 && based || rng.one_in(30) { RECEIVING } else { PLAIN };
-        let mut page = open_page(order, kind, rng);
+        let mut page = open_page(chip, order, kind, rng);
         let count = match rng.below(8) {
-            0 => rng.pick(&[0, 1, 100]),
-            1 | 2 => SLOTS - 1 - rng.below(12),
-            _ => SLOTS,
+            0 => rng.pick(&[0, 1, 100, SMALLER.slots() - 1, SMALLER.slots()]),
+            1 | 2 => chip.slots() - 1 - rng.below(12),
+            _ => chip.slots(),
         };
         fill_slots(&mut page, count, &pool, rng);
         places.extend(counting_slots(&page, count).into_iter().map(|slot| (index, slot)));
@@ -457,17 +559,17 @@ fn used_pages_of(orders: &[u32], based: bool, rng: &mut Rng) -> Vec<Vec<u8>> {
 }
 
 /// A page that is neither used nor cleared: an old one, a receiving one or a bad one.
-fn other_page(lowest: u32, based: bool, rng: &mut Rng) -> Vec<u8> {
-    let count = rng.below(SLOTS + 1);
+fn other_page(chip: Chip, lowest: u32, based: bool, rng: &mut Rng) -> Vec<u8> {
+    let count = rng.below(chip.slots() + 1);
     let pool = some_addresses(rng, 20);
     let mut page = match rng.below(4) {
         0 if based && lowest > 0 => {
             let order = rng.below(lowest as usize) as u32;
             let kind = rng.pick(&[PLAIN, RECEIVING]);
-            open_page(order, kind, rng)
+            open_page(chip, order, kind, rng)
         }
-        1 => receiving_page(rng),
-        _ => bad_page(rng),
+        1 => receiving_page(chip, rng),
+        _ => bad_page(chip, rng),
     };
     if count > 0 && !rng.one_in(4) {
         fill_slots(&mut page, count, &pool, rng);
@@ -475,40 +577,43 @@ fn other_page(lowest: u32, based: bool, rng: &mut Rng) -> Vec<u8> {
     page
 }
 
-fn receiving_page(rng: &mut Rng) -> Vec<u8> {
+fn receiving_page(chip: Chip, rng: &mut Rng) -> Vec<u8> {
     let order = some_order(rng);
-    let mut page = open_page(order, RECEIVING, rng);
+    let mut page = open_page(chip, order, RECEIVING, rng);
     let done = if rng.one_in(2) { BLANK } else { odd_done_word(order, rng) };
     put(&mut page, DONE_OFFSET, done);
     page
 }
 
 /// A page without a sound wear word.
-fn unworn_page(rng: &mut Rng) -> Vec<u8> {
+fn unworn_page(chip: Chip, rng: &mut Rng) -> Vec<u8> {
     let order = some_order(rng);
-    let mut page = open_page(order, PLAIN, rng);
+    let mut page = open_page(chip, order, PLAIN, rng);
     match rng.below(4) {
         0 => page.fill(255),
         1 => page.fill(0),
         2 => put(&mut page, WEAR_OFFSET, BLANK),
-        _ => put(&mut page, WEAR_OFFSET, sound_word([1, 0, rng.pick(&[0, 2, 3, 255])])),
+        _ => {
+            let others: Vec<u8> = [0, 1, 2, 3, 255].into_iter().filter(|&third| third != page[2]).collect();
+            put(&mut page, WEAR_OFFSET, sound_word([1, 0, rng.pick(&others)]));
+        }
     }
     page
 }
 
-fn bad_page(rng: &mut Rng) -> Vec<u8> {
+fn bad_page(chip: Chip, rng: &mut Rng) -> Vec<u8> {
     if rng.one_in(2) {
-        return unworn_page(rng);
+        return unworn_page(chip, rng);
     }
     let order = some_order(rng);
-    let mut page = open_page(order, PLAIN, rng);
+    let mut page = open_page(chip, order, PLAIN, rng);
     match rng.below(4) {
         0 => put(&mut page, OPENING_OFFSET, order_word(order, 0)),
         1 => put(&mut page, OPENING_OFFSET, order_word(order, DONE)),
         2 => put(&mut page, OPENING_OFFSET, BLANK),
         _ => {
-            page = cleared_page(rng);
-            let offset = 4 + rng.below(PAGE_BYTES - 4);
+            page = cleared_page(chip, rng);
+            let offset = 4 + rng.below(chip.page_bytes - 4);
             page[offset] ^= 1 << rng.below(8);
         }
     }
@@ -516,88 +621,93 @@ fn bad_page(rng: &mut Rng) -> Vec<u8> {
 }
 
 /// A store in which several pages have no sound wear word, and no wear is above one that is picked.
-fn worn_unevenly(rng: &mut Rng) -> Vec<u8> {
+fn worn_unevenly(chip: Chip, rng: &mut Rng) -> Vec<u8> {
     let pages = if rng.one_in(20) { 32 } else { 4 + rng.below(5) };
     let used = 1 + rng.below(pages - 3);
     let orders = rising_orders(used, rng);
     let based = rng.one_in(2);
-    let mut all = used_pages_of(&orders, based, rng);
+    let mut all = used_pages_of(chip, &orders, based, rng);
     while all.len() < pages {
         all.push(match rng.below(4) {
-            _ if all.len() + 2 >= pages => unworn_page(rng),
-            0 => cleared_page(rng),
-            1 => other_page(orders[0], based, rng),
-            _ => unworn_page(rng),
+            _ if all.len() + 2 >= pages => unworn_page(chip, rng),
+            0 => cleared_page(chip, rng),
+            1 => other_page(chip, orders[0], based, rng),
+            _ => unworn_page(chip, rng),
         });
     }
     let greatest = rng.pick(&[0, 7, 258, 65_532, 65_533, 65_534, 65_535]);
     for page in &mut all {
-        if let Some(wear) = wear(page, Edition::First) {
-            put(page, WEAR_OFFSET, wear_word(wear.min(greatest), Edition::First));
+        if let Some(wear) = wear(page, chip.editions[0]) {
+            put(page, WEAR_OFFSET, wear_word(wear.min(greatest), chip.editions[0]));
         }
     }
     rng.shuffle(&mut all);
-    in_some_edition(all, rng)
+    in_some_edition(chip, all, rng)
 }
 
 /// Pages that know nothing of each other: equal orders, no open page, every page used.
-fn wild(rng: &mut Rng) -> Vec<u8> {
-    let pages = some_page_count(rng);
+fn wild(chip: Chip, rng: &mut Rng) -> Vec<u8> {
+    let pages = some_page_count(chip, rng);
+    let pages = wild_pages(chip, pages, rng);
+    in_some_edition(chip, pages, rng)
+}
+
+fn wild_pages(chip: Chip, pages: usize, rng: &mut Rng) -> Vec<Vec<u8>> {
     let pool = some_addresses(rng, 30);
     let mut all = Vec::new();
     for _ in 0..pages {
         let order = some_order(rng);
-        let count = rng.below(SLOTS + 1);
+        let count = rng.below(chip.slots() + 1);
         let mut page = match rng.below(8) {
-            0..=2 => cleared_page(rng),
-            3 | 4 => open_page(order, PLAIN, rng),
-            5 => open_page(order, RECEIVING, rng),
-            6 => receiving_page(rng),
-            _ => bad_page(rng),
+            0..=2 => cleared_page(chip, rng),
+            3 | 4 => open_page(chip, order, PLAIN, rng),
+            5 => open_page(chip, order, RECEIVING, rng),
+            6 => receiving_page(chip, rng),
+            _ => bad_page(chip, rng),
         };
-        if open_by_itself(&page).is_some() {
+        if open_by_itself(&page, chip).is_some() {
             fill_slots(&mut page, count, &pool, rng);
         }
         all.push(page);
     }
-    in_some_edition(all, rng)
+    all
 }
 
 /// A store whose edition is that of an old page, in front of an open page of the other edition. While a recovery renews the
 /// one and then the other, the lowest open page is of the other edition.
-fn of_two_editions(rng: &mut Rng) -> Vec<u8> {
+fn of_two_editions(chip: Chip, rng: &mut Rng) -> Vec<u8> {
     let pages = 4 + rng.below(4);
     let used = 1 + rng.below(pages - 3);
     let mut orders = rising_orders(used, rng);
     if orders[0] == 0 {
         orders.iter_mut().for_each(|order| *order += 1);
     }
-    let mut others = used_pages_of(&orders, true, rng);
+    let mut others = used_pages_of(chip, &orders, true, rng);
     while others.len() < pages - 2 {
-        others.push(cleared_page(rng));
+        others.push(cleared_page(chip, rng));
     }
     rng.shuffle(&mut others);
     let old_order = rng.below(orders[0] as usize) as u32;
-    let old = open_page(old_order, PLAIN, rng);
+    let old = open_page(chip, old_order, PLAIN, rng);
     let order = some_order(rng);
-    let mut of_other = open_page(order, PLAIN, rng);
-    put(&mut of_other, WEAR_OFFSET, wear_word(rng.pick(&WEARS), Edition::Second));
-    in_some_edition([vec![old, of_other], others].concat(), rng)
+    let mut of_other = open_page(chip, order, PLAIN, rng);
+    put(&mut of_other, WEAR_OFFSET, wear_word(rng.pick(&WEARS), chip.editions[1]));
+    in_some_edition(chip, [vec![old, of_other], others].concat(), rng)
 }
 
 /// A good image with a few bits flipped, in the headers most often.
-fn flipped(rng: &mut Rng) -> Vec<u8> {
-    let mut image = if rng.one_in(2) { worn(rng) } else { sensible(rng) };
+fn flipped(chip: Chip, rng: &mut Rng) -> Vec<u8> {
+    let mut image = if rng.one_in(2) { worn(chip, rng) } else { sensible(chip, rng) };
     for _ in 0..1 + rng.below(4) {
-        let page = rng.below(page_count(&image));
-        let within = if rng.one_in(4) { rng.below(PAGE_BYTES) } else { rng.below(16) };
-        image[page * PAGE_BYTES + within] ^= 1 << rng.below(8);
+        let page = rng.below(page_count(&image, chip));
+        let within = if rng.one_in(4) { rng.below(chip.page_bytes) } else { rng.below(16) };
+        image[chip.page_range(page).start + within] ^= 1 << rng.below(8);
     }
     image
 }
 
-fn random_bytes(rng: &mut Rng) -> Vec<u8> {
-    let length = some_page_count(rng) * PAGE_BYTES;
+fn random_bytes(chip: Chip, rng: &mut Rng) -> Vec<u8> {
+    let length = some_page_count(chip, rng) * chip.page_bytes;
     let manner = rng.below(3);
     let image: Vec<u8> =
         (0..length).map(|_| if manner == 1 { rng.byte() | rng.byte() | rng.byte() } else { rng.byte() }).collect();
@@ -605,19 +715,20 @@ fn random_bytes(rng: &mut Rng) -> Vec<u8> {
         return image;
     }
     // Random slots under sound headers.
-    let mut pages: Vec<Vec<u8>> = image.chunks(PAGE_BYTES).map(<[u8]>::to_vec).collect();
+    let mut pages: Vec<Vec<u8>> = chip.pages(&image).map(<[u8]>::to_vec).collect();
     for page in &mut pages {
         let order = some_order(rng);
-        page[..12].copy_from_slice(&open_page(order, PLAIN, rng)[..12]);
+        page[..12].copy_from_slice(&open_page(chip, order, PLAIN, rng)[..12]);
     }
     pages.pop();
-    pages.push(cleared_page(rng));
-    in_some_edition(pages, rng)
+    pages.push(cleared_page(chip, rng));
+    in_some_edition(chip, pages, rng)
 }
 
 /// A good image cut or lengthened to a length that no store has.
-fn wrong_length(rng: &mut Rng) -> Vec<u8> {
-    let mut image = sensible(rng);
-    image.resize(rng.pick(&WRONG_LENGTHS), 255);
+fn wrong_length(chip: Chip, rng: &mut Rng) -> Vec<u8> {
+    let mut image = sensible(chip, rng);
+    let [smaller, larger] = WRONG_LENGTHS;
+    image.resize(rng.pick(if chip == LARGER { larger } else { smaller }), 255);
     image
 }

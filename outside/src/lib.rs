@@ -1,10 +1,10 @@
 //! A second settings store, written from the rules in words, which docs/FORMAT.md restates, and not from the definitions:
 //! clear and literal rather than fast. It counts the 0 bits of a word; the library looks them up, half a byte at a time.
 //!
-//! The rules are in `word` (four bytes), `page` (1,024 bytes) and `rules` (a whole image). The calls are there twice:
-//! `second` does them on the image as it goes, `steps` lists the steps beforehand. The rest serves the tests: `images`
-//! makes images from seeds, `cases` tells what they have, `failing` makes steps fail, `guard` lends an image and a group
-//! between unreadable pages, and `broken` has stores and listings that the tests must catch.
+//! The rules are in `word` (four bytes), `page` (1,024 or 2,048 bytes, by the chip) and `rules` (a whole image). The calls
+//! are there twice: `second` does them on the image as it goes, `steps` lists the steps beforehand. The rest serves the
+//! tests: `images` makes images from seeds, `cases` tells what they have, `failing` makes steps fail, `guard` lends an image
+//! and a group between unreadable pages, and `broken` has stores and listings that the tests must catch.
 //!
 //! `cargo test --release` tests the second implementation against itself; `ISTROVELL_LIB=directory cargo test --release
 //! --features library` tests the library `libistrovell.a` of that directory against it. ISTROVELL_IMAGES says how many
@@ -24,6 +24,7 @@ pub mod second;
 pub mod steps;
 pub mod word;
 
+pub use page::Chip;
 pub use rules::{Change, Setting};
 pub use second::{blank_read, format, listing, lookup, read, recover, write, write_group, Second};
 pub use steps::{change_steps, do_step, fail_step, format_steps, recovery_steps, Plan, Step, Stepwise};
@@ -70,22 +71,23 @@ impl Pairing {
     }
 }
 
-/// The seven calls. Every test driver takes any `Store`.
+/// The seven calls, each with the page size that it names. Every test driver takes any `Store`.
 pub trait Store {
-    fn format(&self, image: &mut [u8], edition: Edition) -> u8;
-    fn recover(&self, image: &mut [u8], allowance: u16) -> Stepped;
-    fn write(&self, image: &mut [u8], address: u16, value: u8, allowance: u16) -> Stepped;
+    /// Only the smaller chip has two editions, and only there is `second_edition` looked at.
+    fn format(&self, image: &mut [u8], page_size: u16, second_edition: bool) -> u8;
+    fn recover(&self, image: &mut [u8], page_size: u16, allowance: u16) -> Stepped;
+    fn write(&self, image: &mut [u8], page_size: u16, address: u16, value: u8, allowance: u16) -> Stepped;
     /// `group` has three bytes for each setting: its address, low byte first, then its value.
-    fn write_group(&self, image: &mut [u8], group: &[u8], allowance: u16) -> Stepped;
-    fn read(&self, image: &[u8], address: u16) -> Reading;
-    fn blank_read(&self, image: &[u8], address: u16) -> Reading;
-    fn lookup(&self, image: &[u8]) -> Pairing;
+    fn write_group(&self, image: &mut [u8], page_size: u16, group: &[u8], allowance: u16) -> Stepped;
+    fn read(&self, image: &[u8], page_size: u16, address: u16) -> Reading;
+    fn blank_read(&self, image: &[u8], page_size: u16, address: u16) -> Reading;
+    fn lookup(&self, image: &[u8], page_size: u16) -> Pairing;
 
     /// The write or the group write that makes this change.
-    fn change(&self, image: &mut [u8], change: &Change, allowance: u16) -> Stepped {
+    fn change(&self, image: &mut [u8], page_size: u16, change: &Change, allowance: u16) -> Stepped {
         match change {
-            &Change::Single((address, value)) => self.write(image, address, value, allowance),
-            Change::Group(settings) => self.write_group(image, &rules::group_bytes(settings), allowance),
+            &Change::Single((address, value)) => self.write(image, page_size, address, value, allowance),
+            Change::Group(settings) => self.write_group(image, page_size, &rules::group_bytes(settings), allowance),
         }
     }
 }

@@ -1,6 +1,6 @@
 //! The library under test, through its C exports.
 
-use crate::{Edition, Pairing, Reading, Stepped, Store};
+use crate::{Pairing, Reading, Stepped, Store};
 
 #[repr(C)]
 struct CReading {
@@ -26,19 +26,27 @@ struct CPairing {
 }
 
 extern "C" {
-    fn istrovell_format(image: *mut u8, length: usize, second_edition: bool) -> u8;
-    fn istrovell_recover(image: *mut u8, length: usize, allowance: u16) -> CStepped;
-    fn istrovell_write(image: *mut u8, length: usize, address: u16, value: u8, allowance: u16) -> CStepped;
+    fn istrovell_format(image: *mut u8, length: usize, page_size: u16, second_edition: bool) -> u8;
+    fn istrovell_recover(image: *mut u8, length: usize, page_size: u16, allowance: u16) -> CStepped;
+    fn istrovell_write(
+        image: *mut u8,
+        length: usize,
+        page_size: u16,
+        address: u16,
+        value: u8,
+        allowance: u16,
+    ) -> CStepped;
     fn istrovell_write_group(
         image: *mut u8,
         length: usize,
+        page_size: u16,
         group: *const u8,
         group_length: usize,
         allowance: u16,
     ) -> CStepped;
-    fn istrovell_read(image: *const u8, length: usize, address: u16) -> CReading;
-    fn istrovell_blank_read(image: *const u8, length: usize, address: u16) -> CReading;
-    fn istrovell_lookup(image: *const u8, length: usize) -> CPairing;
+    fn istrovell_read(image: *const u8, length: usize, page_size: u16, address: u16) -> CReading;
+    fn istrovell_blank_read(image: *const u8, length: usize, page_size: u16, address: u16) -> CReading;
+    fn istrovell_lookup(image: *const u8, length: usize, page_size: u16) -> CPairing;
 }
 
 #[derive(Clone, Copy, Debug, Default)]
@@ -47,27 +55,27 @@ pub struct Library;
 // SAFETY of every call below: pointer and length are those of a slice that lives through the call, and of two slices neither
 // lies in the other.
 impl Store for Library {
-    fn format(&self, image: &mut [u8], edition: Edition) -> u8 {
-        unsafe { istrovell_format(image.as_mut_ptr(), image.len(), edition == Edition::Second) }
+    fn format(&self, image: &mut [u8], page_size: u16, second_edition: bool) -> u8 {
+        unsafe { istrovell_format(image.as_mut_ptr(), image.len(), page_size, second_edition) }
     }
-    fn recover(&self, image: &mut [u8], allowance: u16) -> Stepped {
-        stepped(unsafe { istrovell_recover(image.as_mut_ptr(), image.len(), allowance) })
+    fn recover(&self, image: &mut [u8], page_size: u16, allowance: u16) -> Stepped {
+        stepped(unsafe { istrovell_recover(image.as_mut_ptr(), image.len(), page_size, allowance) })
     }
-    fn write(&self, image: &mut [u8], address: u16, value: u8, allowance: u16) -> Stepped {
-        stepped(unsafe { istrovell_write(image.as_mut_ptr(), image.len(), address, value, allowance) })
+    fn write(&self, image: &mut [u8], page_size: u16, address: u16, value: u8, allowance: u16) -> Stepped {
+        stepped(unsafe { istrovell_write(image.as_mut_ptr(), image.len(), page_size, address, value, allowance) })
     }
-    fn write_group(&self, image: &mut [u8], group: &[u8], allowance: u16) -> Stepped {
+    fn write_group(&self, image: &mut [u8], page_size: u16, group: &[u8], allowance: u16) -> Stepped {
         let (bytes, length) = (group.as_ptr(), group.len());
-        stepped(unsafe { istrovell_write_group(image.as_mut_ptr(), image.len(), bytes, length, allowance) })
+        stepped(unsafe { istrovell_write_group(image.as_mut_ptr(), image.len(), page_size, bytes, length, allowance) })
     }
-    fn read(&self, image: &[u8], address: u16) -> Reading {
-        reading(unsafe { istrovell_read(image.as_ptr(), image.len(), address) })
+    fn read(&self, image: &[u8], page_size: u16, address: u16) -> Reading {
+        reading(unsafe { istrovell_read(image.as_ptr(), image.len(), page_size, address) })
     }
-    fn blank_read(&self, image: &[u8], address: u16) -> Reading {
-        reading(unsafe { istrovell_blank_read(image.as_ptr(), image.len(), address) })
+    fn blank_read(&self, image: &[u8], page_size: u16, address: u16) -> Reading {
+        reading(unsafe { istrovell_blank_read(image.as_ptr(), image.len(), page_size, address) })
     }
-    fn lookup(&self, image: &[u8]) -> Pairing {
-        pairing(unsafe { istrovell_lookup(image.as_ptr(), image.len()) })
+    fn lookup(&self, image: &[u8], page_size: u16) -> Pairing {
+        pairing(unsafe { istrovell_lookup(image.as_ptr(), image.len(), page_size) })
     }
 }
 

@@ -86,22 +86,23 @@ pub fn group_bytes(settings: &[Setting]) -> Vec<u8> {
     settings.iter().flat_map(|&(address, value)| [address as u8, (address >> 8) as u8, value]).collect()
 }
 
-pub fn page_count(image: &[u8]) -> usize {
-    image.len() / PAGE_BYTES
+pub fn page_count(image: &[u8], chip: Chip) -> usize {
+    image.len() / chip.page_bytes
 }
 
-pub fn page_at(image: &[u8], page: usize) -> &[u8] {
-    &image[page * PAGE_BYTES..(page + 1) * PAGE_BYTES]
+pub fn page_at(image: &[u8], chip: Chip, page: usize) -> &[u8] {
+    &image[chip.page_range(page)]
 }
 
-/// The edition of the page of lowest index that is open by itself. All pages are read by it.
-pub fn edition(image: &[u8]) -> Edition {
-    image.chunks_exact(PAGE_BYTES).find_map(open_by_itself).unwrap_or(Edition::First)
+/// The edition of the page of lowest index that is open by itself, or without one the chip's first. All pages are read
+/// by it.
+pub fn edition(image: &[u8], chip: Chip) -> Edition {
+    chip.pages(image).find_map(|page| open_by_itself(page, chip)).unwrap_or(chip.editions[0])
 }
 
-pub fn states(image: &[u8]) -> Vec<State> {
-    let edition = edition(image);
-    image.chunks_exact(PAGE_BYTES).map(|page| state(page, edition)).collect()
+pub fn states(image: &[u8], chip: Chip) -> Vec<State> {
+    let edition = edition(image, chip);
+    chip.pages(image).map(|page| state(page, edition)).collect()
 }
 
 /// The greatest order of an open page of kind 2, or 0 if there is none.
@@ -114,8 +115,8 @@ pub fn base_order(states: &[State]) -> u32 {
 }
 
 /// The open pages of the base order or greater, by falling order.
-pub fn used_pages(image: &[u8]) -> Vec<Used> {
-    let states = states(image);
+pub fn used_pages(image: &[u8], chip: Chip) -> Vec<Used> {
+    let states = states(image, chip);
     let base = base_order(&states);
     let mut used = Vec::new();
     for (page, state) in states.iter().enumerate() {
@@ -130,16 +131,16 @@ pub fn used_pages(image: &[u8]) -> Vec<Used> {
 }
 
 /// The used page of greatest order. There is one whenever there is an open page.
-pub fn active_page(image: &[u8]) -> Used {
-    used_pages(image)[0]
+pub fn active_page(image: &[u8], chip: Chip) -> Used {
+    used_pages(image, chip)[0]
 }
 
 /// The value in the last record that counts and names the address: from the last slot of the active page back, then
 /// through the used pages of falling order.
-pub fn value(image: &[u8], address: u16) -> Option<u8> {
-    let edition = edition(image);
-    for used in used_pages(image) {
-        for (named, value) in records(page_at(image, used.page), edition).into_iter().rev() {
+pub fn value(image: &[u8], chip: Chip, address: u16) -> Option<u8> {
+    let edition = edition(image, chip);
+    for used in used_pages(image, chip) {
+        for (named, value) in records(page_at(image, chip, used.page), edition).into_iter().rev() {
             if named == address {
                 return Some(value);
             }
@@ -149,22 +150,22 @@ pub fn value(image: &[u8], address: u16) -> Option<u8> {
 }
 
 /// Every held address with its value. Going forward, a later record replaces an earlier one.
-pub fn held(image: &[u8]) -> BTreeMap<u16, u8> {
-    let edition = edition(image);
+pub fn held(image: &[u8], chip: Chip) -> BTreeMap<u16, u8> {
+    let edition = edition(image, chip);
     let mut held = BTreeMap::new();
-    for used in used_pages(image).iter().rev() {
-        held.extend(records(page_at(image, used.page), edition));
+    for used in used_pages(image, chip).iter().rev() {
+        held.extend(records(page_at(image, chip, used.page), edition));
     }
     held
 }
 
 /// How many addresses are held, without their values: every call but format asks for it.
-fn held_count(image: &[u8]) -> usize {
-    let edition = edition(image);
+fn held_count(image: &[u8], chip: Chip) -> usize {
+    let edition = edition(image, chip);
     let mut is_held = vec![false; 65_536];
     let mut count = 0;
-    for used in used_pages(image) {
-        for (address, _) in records(page_at(image, used.page), edition) {
+    for used in used_pages(image, chip) {
+        for (address, _) in records(page_at(image, chip, used.page), edition) {
             count += usize::from(!is_held[usize::from(address)]);
             is_held[usize::from(address)] = true;
         }
@@ -173,16 +174,16 @@ fn held_count(image: &[u8]) -> usize {
 }
 
 /// Whether each address of the change has its value already.
-pub fn is_held(image: &[u8], change: &Change) -> bool {
-    change.settings().iter().all(|&(address, new)| value(image, address) == Some(new))
+pub fn is_held(image: &[u8], chip: Chip, change: &Change) -> bool {
+    change.settings().iter().all(|&(address, new)| value(image, chip, address) == Some(new))
 }
 
 /// How many slots of the used pages are half-written, and how many are spoiled.
-pub fn broken_words(image: &[u8]) -> (usize, usize) {
-    let edition = edition(image);
+pub fn broken_words(image: &[u8], chip: Chip) -> (usize, usize) {
+    let edition = edition(image, chip);
     let (mut half, mut spoiled) = (0, 0);
-    for used in used_pages(image) {
-        for slot in slots_in_place(page_at(image, used.page), edition) {
+    for used in used_pages(image, chip) {
+        for slot in slots_in_place(page_at(image, chip, used.page), edition) {
             match slot {
                 Slot::HalfWritten => half += 1,
                 Slot::Spoiled => spoiled += 1,
@@ -194,9 +195,9 @@ pub fn broken_words(image: &[u8]) -> (usize, usize) {
 }
 
 /// The cleared pages with their wear, by index.
-pub fn cleared_pages(image: &[u8]) -> Vec<(usize, u16)> {
+pub fn cleared_pages(image: &[u8], chip: Chip) -> Vec<(usize, u16)> {
     let mut cleared = Vec::new();
-    for (page, state) in states(image).iter().enumerate() {
+    for (page, state) in states(image, chip).iter().enumerate() {
         if let State::Cleared { wear } = *state {
             cleared.push((page, wear));
         }
@@ -205,67 +206,72 @@ pub fn cleared_pages(image: &[u8]) -> Vec<(usize, u16)> {
 }
 
 /// The pages that are neither used nor cleared, by index: those that recovery renews.
-pub fn unclean_pages(image: &[u8]) -> Vec<usize> {
-    let used = used_pages(image);
-    let cleared = cleared_pages(image);
+pub fn unclean_pages(image: &[u8], chip: Chip) -> Vec<usize> {
+    let used = used_pages(image, chip);
+    let cleared = cleared_pages(image, chip);
     let is_used = |page| used.iter().any(|used| used.page == page);
     let is_cleared = |page| cleared.iter().any(|&(cleared, _)| cleared == page);
-    (0..page_count(image)).filter(|&page| !is_used(page) && !is_cleared(page)).collect()
+    (0..page_count(image, chip)).filter(|&page| !is_used(page) && !is_cleared(page)).collect()
 }
 
 /// Page and slot for the mark that abandons: the free slot of the active page, if that has an open group and a free slot.
-pub fn slot_to_abandon(image: &[u8]) -> Option<(usize, usize)> {
-    let active = active_page(image).page;
-    let page = page_at(image, active);
+pub fn slot_to_abandon(image: &[u8], chip: Chip) -> Option<(usize, usize)> {
+    let active = active_page(image, chip).page;
+    let page = page_at(image, chip, active);
     let free = free_slots(page);
-    (has_open_group(page, edition(image)) && !free.is_empty()).then_some((active, free.start))
+    (has_open_group(page, edition(image, chip)) && !free.is_empty()).then_some((active, free.start))
 }
 
 /// The greatest wear in the image, whatever its page; 0 if there is none.
-pub fn greatest_wear(image: &[u8], edition: Edition) -> u16 {
-    image.chunks_exact(PAGE_BYTES).filter_map(|page| wear(page, edition)).max().unwrap_or(0)
+pub fn greatest_wear(image: &[u8], chip: Chip, edition: Edition) -> u16 {
+    chip.pages(image).filter_map(|page| wear(page, edition)).max().unwrap_or(0)
 }
 
 /// The wear that a page gets if it is erased now: one more than its own, and if it has none one more than the greatest in
 /// the image, at most 65,535. The edition is that of the store at the call.
-pub fn next_wear(image: &[u8], edition: Edition, page: usize) -> u16 {
-    wear(page_at(image, page), edition).unwrap_or_else(|| greatest_wear(image, edition)).saturating_add(1)
+pub fn next_wear(image: &[u8], chip: Chip, edition: Edition, page: usize) -> u16 {
+    wear(page_at(image, chip, page), edition).unwrap_or_else(|| greatest_wear(image, chip, edition)).saturating_add(1)
 }
 
-/// Test 1.
-pub fn test_size(image: &[u8]) -> Result<(), u8> {
-    let pages = page_count(image);
-    if !image.len().is_multiple_of(PAGE_BYTES) || !(2..=32).contains(&pages) {
+/// Test 1, of the page size by itself: no other than these two is a chip's.
+pub fn chip_named(page_size: u16) -> Result<Chip, u8> {
+    CHIPS.into_iter().find(|chip| chip.page_size() == page_size).ok_or(SIZE)
+}
+
+/// Test 1, of the length by the chip's page size.
+pub fn test_size(image: &[u8], chip: Chip) -> Result<(), u8> {
+    let pages = page_count(image, chip);
+    if !image.len().is_multiple_of(chip.page_bytes) || !(2..=32).contains(&pages) {
         return Err(SIZE);
     }
     Ok(())
 }
 
 /// Tests 1 to 3.
-pub fn test_store(image: &[u8]) -> Result<(), u8> {
-    test_size(image)?;
-    let used = used_pages(image);
+pub fn test_store(image: &[u8], chip: Chip) -> Result<(), u8> {
+    test_size(image, chip)?;
+    let used = used_pages(image, chip);
     if used.is_empty() {
         return Err(NO_STORE);
     }
     let two_of_one_order = used.windows(2).any(|pair| pair[0].order == pair[1].order);
-    let every_page_used = used.len() == page_count(image);
-    if two_of_one_order || every_page_used || held_count(image) > MOST_HELD {
+    let every_page_used = used.len() == page_count(image, chip);
+    if two_of_one_order || every_page_used || held_count(image, chip) > MOST_HELD {
         return Err(DAMAGED);
     }
     Ok(())
 }
 
 /// Test 4.
-fn test_clean(image: &[u8]) -> Result<(), u8> {
-    if !unclean_pages(image).is_empty() || slot_to_abandon(image).is_some() {
+fn test_clean(image: &[u8], chip: Chip) -> Result<(), u8> {
+    if !unclean_pages(image, chip).is_empty() || slot_to_abandon(image, chip).is_some() {
         return Err(UNCLEAN);
     }
     Ok(())
 }
 
 /// Test 9, which a single setting passes.
-pub fn test_group(image: &[u8], change: &Change) -> Result<(), u8> {
+pub fn test_group(image: &[u8], chip: Chip, change: &Change) -> Result<(), u8> {
     let Change::Group(settings) = change else {
         return Ok(());
     };
@@ -273,7 +279,7 @@ pub fn test_group(image: &[u8], change: &Change) -> Result<(), u8> {
         .iter()
         .enumerate()
         .any(|(place, &(address, _))| settings[..place].iter().any(|&(earlier, _)| earlier == address));
-    if edition(image) == Edition::First || !(1..=MOST_IN_A_GROUP).contains(&settings.len()) || repeated {
+    if !edition(image, chip).has_groups() || !(1..=MOST_IN_A_GROUP).contains(&settings.len()) || repeated {
         return Err(GROUP);
     }
     Ok(())
@@ -288,14 +294,14 @@ pub fn test_address(address: u16) -> Result<(), u8> {
 }
 
 /// Tests 1 to 7, and 9 behind 4. A change whose values are all held is not tested for 6 and 7.
-pub fn test_change(image: &[u8], change: &Change) -> Result<(), u8> {
-    test_store(image)?;
-    test_clean(image)?;
-    test_group(image, change)?;
+pub fn test_change(image: &[u8], chip: Chip, change: &Change) -> Result<(), u8> {
+    test_store(image, chip)?;
+    test_clean(image, chip)?;
+    test_group(image, chip, change)?;
     for &(address, _) in change.settings() {
         test_address(address)?;
     }
-    let held = held(image);
+    let held = held(image, chip);
     if change.settings().iter().all(|(address, value)| held.get(address) == Some(value)) {
         return Ok(());
     }
@@ -303,8 +309,8 @@ pub fn test_change(image: &[u8], change: &Change) -> Result<(), u8> {
     if held.len() + new > MOST_HELD {
         return Err(NO_ROOM);
     }
-    let active = active_page(image);
-    let new_page_needed = free_slots(page_at(image, active.page)).len() < change.words().len();
+    let active = active_page(image, chip);
+    let new_page_needed = free_slots(page_at(image, chip, active.page)).len() < change.words().len();
     if new_page_needed && active.order == LAST_ORDER {
         return Err(ORDER_END);
     }

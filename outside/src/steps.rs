@@ -1,5 +1,7 @@
 //! Steps: doing one, failing in one, and the list of steps of each call as fixed by the image at the call.
 
+use std::collections::BTreeMap;
+
 use crate::page::*;
 use crate::rules::*;
 use crate::word::*;
@@ -7,8 +9,15 @@ use crate::{Pairing, Reading, Second, Stepped, Store};
 
 #[derive(Clone, Copy, Debug, PartialEq, Eq)]
 pub enum Step {
-    Program { offset: usize, value: u16 },
-    Erase { page: usize },
+    Program {
+        offset: usize,
+        value: u16,
+    },
+    /// Of the page of this index, where pages have so many bytes.
+    Erase {
+        page: usize,
+        page_bytes: usize,
+    },
 }
 
 impl Step {
@@ -16,7 +25,7 @@ impl Step {
     pub fn bytes(self) -> std::ops::Range<usize> {
         match self {
             Step::Program { offset, .. } => offset..offset + 2,
-            Step::Erase { page } => page * PAGE_BYTES..(page + 1) * PAGE_BYTES,
+            Step::Erase { page, page_bytes } => page * page_bytes..(page + 1) * page_bytes,
         }
     }
 }
@@ -64,134 +73,139 @@ pub fn program_word_steps(offset: usize, word: Word) -> [Step; 2] {
     ]
 }
 
-fn header_steps(page: usize, offset: usize, word: Word) -> [Step; 2] {
-    program_word_steps(page * PAGE_BYTES + offset, word)
+fn header_steps(chip: Chip, page: usize, offset: usize, word: Word) -> [Step; 2] {
+    program_word_steps(chip.page_range(page).start + offset, word)
 }
 
-pub fn slot_steps(page: usize, slot: usize, word: Word) -> [Step; 2] {
-    program_word_steps(page * PAGE_BYTES + slot_offset(slot), word)
+pub fn slot_steps(chip: Chip, page: usize, slot: usize, word: Word) -> [Step; 2] {
+    assert!(slot < chip.slots());
+    program_word_steps(chip.page_range(page).start + slot_offset(slot), word)
 }
 
 /// The words one behind the other, from this slot on.
-pub fn slots_steps(page: usize, first: usize, words: &[Word]) -> Vec<Step> {
-    words.iter().enumerate().flat_map(|(place, &word)| slot_steps(page, first + place, word)).collect()
+pub fn slots_steps(chip: Chip, page: usize, first: usize, words: &[Word]) -> Vec<Step> {
+    words.iter().enumerate().flat_map(|(place, &word)| slot_steps(chip, page, first + place, word)).collect()
 }
 
-fn renew_steps(page: usize, wear: u16, edition: Edition) -> [Step; 3] {
-    let [first, second] = header_steps(page, WEAR_OFFSET, wear_word(wear, edition));
-    [Step::Erase { page }, first, second]
+fn renew_steps(chip: Chip, page: usize, wear: u16, edition: Edition) -> [Step; 3] {
+    let [first, second] = header_steps(chip, page, WEAR_OFFSET, wear_word(wear, edition));
+    [Step::Erase { page, page_bytes: chip.page_bytes }, first, second]
 }
 
 /// The steps that renew these pages one after the other, each with the wear that it gets by the image just before its
 /// erase.
-fn renewal_steps(image: &[u8], edition: Edition, pages: impl IntoIterator<Item = usize>) -> Vec<Step> {
+fn renewal_steps(image: &[u8], chip: Chip, edition: Edition, pages: impl IntoIterator<Item = usize>) -> Vec<Step> {
     let mut now = image.to_vec();
     let mut steps = Vec::new();
     for page in pages {
-        let renewed = renew_steps(page, next_wear(&now, edition, page), edition);
+        let renewed = renew_steps(chip, page, next_wear(&now, chip, edition, page), edition);
         renewed.iter().for_each(|&step| do_step(&mut now, step));
         steps.extend(renewed);
     }
     steps
 }
 
-pub fn format_steps(image: &[u8], edition: Edition) -> Result<Vec<Step>, u8> {
-    test_size(image)?;
+pub fn format_steps(image: &[u8], chip: Chip, edition: Edition) -> Result<Vec<Step>, u8> {
+    test_size(image, chip)?;
     let mut steps = Vec::new();
-    for page in 0..page_count(image) {
-        steps.extend(renew_steps(page, 1, edition));
+    for page in 0..page_count(image, chip) {
+        steps.extend(renew_steps(chip, page, 1, edition));
     }
-    steps.extend(header_steps(0, OPENING_OFFSET, order_word(0, PLAIN)));
+    steps.extend(header_steps(chip, 0, OPENING_OFFSET, order_word(0, PLAIN)));
     Ok(steps)
 }
 
-pub fn recovery_steps(image: &[u8]) -> Result<Vec<Step>, u8> {
-    test_store(image)?;
+pub fn recovery_steps(image: &[u8], chip: Chip) -> Result<Vec<Step>, u8> {
+    test_store(image, chip)?;
     let mut steps = Vec::new();
-    if let Some((page, slot)) = slot_to_abandon(image) {
-        steps.extend(slot_steps(page, slot, mark_word(Mark::Abandons)));
+    if let Some((page, slot)) = slot_to_abandon(image, chip) {
+        steps.extend(slot_steps(chip, page, slot, mark_word(Mark::Abandons)));
     }
-    steps.extend(renewal_steps(image, edition(image), unclean_pages(image)));
+    steps.extend(renewal_steps(image, chip, edition(image, chip), unclean_pages(image, chip)));
     Ok(steps)
 }
 
 /// The steps of a write or a group write.
-pub fn change_steps(image: &[u8], change: &Change) -> Result<Vec<Step>, u8> {
-    test_change(image, change)?;
-    Ok(accepted_steps(image, change))
+pub fn change_steps(image: &[u8], chip: Chip, change: &Change) -> Result<Vec<Step>, u8> {
+    test_change(image, chip, change)?;
+    Ok(accepted_steps(image, chip, change))
 }
 
 /// The same, of a change that is known to be accepted.
-pub fn accepted_steps(image: &[u8], change: &Change) -> Vec<Step> {
-    if is_held(image, change) {
+pub fn accepted_steps(image: &[u8], chip: Chip, change: &Change) -> Vec<Step> {
+    if is_held(image, chip, change) {
         return Vec::new();
     }
-    placing_steps(image, &change.words(), || moved_words(image, change))
+    placing_steps(image, chip, &change.words(), || moved_words(image, chip, change))
 }
 
 /// These words from the free slot on or into a new page, or else a move of the others.
-pub fn placing_steps(image: &[u8], words: &[Word], moved: impl FnOnce() -> Vec<Word>) -> Vec<Step> {
-    let active = active_page(image);
-    let free = free_slots(page_at(image, active.page));
+pub fn placing_steps(image: &[u8], chip: Chip, words: &[Word], moved: impl FnOnce() -> Vec<Word>) -> Vec<Step> {
+    let active = active_page(image, chip);
+    let free = free_slots(page_at(image, chip, active.page));
     if free.len() >= words.len() {
-        return slots_steps(active.page, free.start, words);
+        return slots_steps(chip, active.page, free.start, words);
     }
-    let cleared = cleared_pages(image);
+    let cleared = cleared_pages(image, chip);
     let (page, _) =
         *cleared.iter().min_by_key(|&&(page, wear)| (wear, page)).expect("tests 3 and 4 leave a cleared page");
     if cleared.len() == 1 {
-        return move_steps(image, page, active.order + 1, &moved());
+        return move_steps(image, chip, page, active.order + 1, &moved());
     }
-    let opening = header_steps(page, OPENING_OFFSET, order_word(active.order + 1, PLAIN));
-    [opening.to_vec(), slots_steps(page, 0, words)].concat()
+    let opening = header_steps(chip, page, OPENING_OFFSET, order_word(active.order + 1, PLAIN));
+    [opening.to_vec(), slots_steps(chip, page, 0, words)].concat()
 }
 
 /// The copies of a move: a record for each held address but the written ones, by rising address.
-pub fn copies(image: &[u8], change: &Change) -> Vec<Word> {
-    let copied = held(image).into_iter().filter(|&(address, _)| !change.names(address));
+pub fn copies(image: &[u8], chip: Chip, change: &Change) -> Vec<Word> {
+    let copied = held(image, chip).into_iter().filter(|&(address, _)| !change.names(address));
     copied.map(|(address, value)| record(address, value)).collect()
 }
 
 /// What a move programs: the copies, and behind them the new records without marks.
-fn moved_words(image: &[u8], change: &Change) -> Vec<Word> {
-    [copies(image, change), change.records()].concat()
+fn moved_words(image: &[u8], chip: Chip, change: &Change) -> Vec<Word> {
+    [copies(image, chip, change), change.records()].concat()
 }
 
 /// Every page but the receiving one is used when a move begins, and none is once the done word is there.
-fn move_steps(image: &[u8], page: usize, order: u32, words: &[Word]) -> Vec<Step> {
-    let mut steps = header_steps(page, OPENING_OFFSET, order_word(order, RECEIVING)).to_vec();
-    steps.extend(slots_steps(page, 0, words));
-    steps.extend(header_steps(page, DONE_OFFSET, done_word(order)));
+fn move_steps(image: &[u8], chip: Chip, page: usize, order: u32, words: &[Word]) -> Vec<Step> {
+    let mut steps = header_steps(chip, page, OPENING_OFFSET, order_word(order, RECEIVING)).to_vec();
+    steps.extend(slots_steps(chip, page, 0, words));
+    steps.extend(header_steps(chip, page, DONE_OFFSET, done_word(order)));
     let mut filled = image.to_vec();
     steps.iter().for_each(|&step| do_step(&mut filled, step));
-    let others = (0..page_count(image)).filter(|&other| other != page);
-    steps.extend(renewal_steps(&filled, edition(image), others));
+    let others = (0..page_count(image, chip)).filter(|&other| other != page);
+    steps.extend(renewal_steps(&filled, chip, edition(image, chip), others));
     steps
 }
 
-/// A store given by its lists of steps, and by how it takes an image to be before it reads it.
+/// A store given by its lists of steps, and by how it takes a page size and an image to be before it reads the image.
 pub trait Plan {
-    fn format_steps(&self, image: &[u8], edition: Edition) -> Result<Vec<Step>, u8> {
-        format_steps(image, edition)
+    /// The chip whose page size a call names.
+    fn chip(&self, page_size: u16) -> Result<Chip, u8> {
+        chip_named(page_size)
     }
-    fn recovery_steps(&self, image: &[u8]) -> Result<Vec<Step>, u8>;
-    fn change_steps(&self, image: &[u8], change: &Change) -> Result<Vec<Step>, u8>;
+    fn format_steps(&self, image: &[u8], chip: Chip, second_edition: bool) -> Result<Vec<Step>, u8> {
+        format_steps(image, chip, chip.told(second_edition))
+    }
+    fn recovery_steps(&self, image: &[u8], chip: Chip) -> Result<Vec<Step>, u8>;
+    fn change_steps(&self, image: &[u8], chip: Chip, change: &Change) -> Result<Vec<Step>, u8>;
     /// The group in the bytes that a group write is lent.
     fn group(&self, bytes: &[u8]) -> Change {
         Change::group(bytes)
     }
     /// The rules see the image as it is; only a broken store (see `broken`) sees another.
-    fn seen(&self, image: &[u8]) -> Vec<u8> {
+    fn seen(&self, image: &[u8], _chip: Chip) -> Vec<u8> {
         image.to_vec()
     }
 }
 
 impl Plan for Second {
-    fn recovery_steps(&self, image: &[u8]) -> Result<Vec<Step>, u8> {
-        recovery_steps(image)
+    fn recovery_steps(&self, image: &[u8], chip: Chip) -> Result<Vec<Step>, u8> {
+        recovery_steps(image, chip)
     }
-    fn change_steps(&self, image: &[u8], change: &Change) -> Result<Vec<Step>, u8> {
-        change_steps(image, change)
+    fn change_steps(&self, image: &[u8], chip: Chip, change: &Change) -> Result<Vec<Step>, u8> {
+        change_steps(image, chip, change)
     }
 }
 
@@ -199,8 +213,14 @@ impl Plan for Second {
 pub struct Stepwise<P>(pub P);
 
 impl<P: Plan> Stepwise<P> {
-    fn run(image: &mut [u8], steps: Result<Vec<Step>, u8>, allowance: u16) -> Stepped {
-        let steps = match steps {
+    fn run(
+        &self,
+        image: &mut [u8],
+        page_size: u16,
+        allowance: u16,
+        steps: impl FnOnce(&P, &[u8], Chip) -> Result<Vec<Step>, u8>,
+    ) -> Stepped {
+        let steps = match self.0.chip(page_size).and_then(|chip| steps(&self.0, image, chip)) {
             Ok(steps) => steps,
             Err(number) => return Stepped::refused(number),
         };
@@ -211,50 +231,54 @@ impl<P: Plan> Stepwise<P> {
         Stepped { number: OK, finished: done == steps.len(), steps: done as u16 }
     }
 
-    fn value(&self, image: &[u8], address: u16) -> Result<Option<u8>, u8> {
-        let seen = self.0.seen(image);
-        test_store(&seen)?;
+    /// What the plan holds for held, in an image that is accepted.
+    fn held(&self, image: &[u8], page_size: u16) -> Result<BTreeMap<u16, u8>, u8> {
+        let chip = self.0.chip(page_size)?;
+        let seen = self.0.seen(image, chip);
+        test_store(&seen, chip)?;
+        Ok(held(&seen, chip))
+    }
+
+    fn value(&self, image: &[u8], page_size: u16, address: u16) -> Result<Option<u8>, u8> {
+        let held = self.held(image, page_size)?;
         test_address(address)?;
-        Ok(held(&seen).get(&address).copied())
+        Ok(held.get(&address).copied())
     }
 }
 
 impl<P: Plan> Store for Stepwise<P> {
-    fn format(&self, image: &mut [u8], edition: Edition) -> u8 {
-        let steps = self.0.format_steps(image, edition);
-        Self::run(image, steps, u16::MAX).number
+    fn format(&self, image: &mut [u8], page_size: u16, second_edition: bool) -> u8 {
+        self.run(image, page_size, u16::MAX, |plan, image, chip| plan.format_steps(image, chip, second_edition)).number
     }
-    fn recover(&self, image: &mut [u8], allowance: u16) -> Stepped {
-        let steps = self.0.recovery_steps(image);
-        Self::run(image, steps, allowance)
+    fn recover(&self, image: &mut [u8], page_size: u16, allowance: u16) -> Stepped {
+        self.run(image, page_size, allowance, P::recovery_steps)
     }
-    fn write(&self, image: &mut [u8], address: u16, value: u8, allowance: u16) -> Stepped {
-        let steps = self.0.change_steps(image, &Change::Single((address, value)));
-        Self::run(image, steps, allowance)
+    fn write(&self, image: &mut [u8], page_size: u16, address: u16, value: u8, allowance: u16) -> Stepped {
+        let change = Change::Single((address, value));
+        self.run(image, page_size, allowance, |plan, image, chip| plan.change_steps(image, chip, &change))
     }
-    fn write_group(&self, image: &mut [u8], group: &[u8], allowance: u16) -> Stepped {
-        let steps = self.0.change_steps(image, &self.0.group(group));
-        Self::run(image, steps, allowance)
+    fn write_group(&self, image: &mut [u8], page_size: u16, group: &[u8], allowance: u16) -> Stepped {
+        let change = self.0.group(group);
+        self.run(image, page_size, allowance, |plan, image, chip| plan.change_steps(image, chip, &change))
     }
-    fn read(&self, image: &[u8], address: u16) -> Reading {
-        match self.value(image, address) {
+    fn read(&self, image: &[u8], page_size: u16, address: u16) -> Reading {
+        match self.value(image, page_size, address) {
             Ok(Some(value)) => Reading { number: OK, value },
             Ok(None) => Reading::refused(NOT_HELD),
             Err(number) => Reading::refused(number),
         }
     }
-    fn blank_read(&self, image: &[u8], address: u16) -> Reading {
-        match self.value(image, address) {
+    fn blank_read(&self, image: &[u8], page_size: u16, address: u16) -> Reading {
+        match self.value(image, page_size, address) {
             Ok(held) => Reading { number: OK, value: held.unwrap_or(0) },
             Err(number) => Reading::refused(number),
         }
     }
-    fn lookup(&self, image: &[u8]) -> Pairing {
-        let seen = self.0.seen(image);
-        if let Err(number) = test_store(&seen) {
-            return Pairing::refused(number);
-        }
-        let held = held(&seen);
+    fn lookup(&self, image: &[u8], page_size: u16) -> Pairing {
+        let held = match self.held(image, page_size) {
+            Ok(held) => held,
+            Err(number) => return Pairing::refused(number),
+        };
         let mut digits = [0; 4];
         for (address, &value) in held.range(16..20) {
             digits[usize::from(address - 16)] = value;

@@ -24,9 +24,17 @@ const CLOSING: u8 = 128;
 pub enum Edition {
     First = 1,
     Second = 2,
+    /// That of the larger chip.
+    Third = 3,
 }
 
-pub const EDITIONS: [Edition; 2] = [Edition::First, Edition::Second];
+pub const EDITIONS: [Edition; 3] = [Edition::First, Edition::Second, Edition::Third];
+
+impl Edition {
+    pub fn has_groups(self) -> bool {
+        self != Edition::First
+    }
+}
 
 /// A word is exactly one of these.
 #[derive(Clone, Copy, Debug, PartialEq, Eq)]
@@ -149,12 +157,13 @@ pub fn slot_in(word: Word, edition: Edition) -> Slot {
     }
 }
 
-/// The mark of this value. The first edition has none.
+/// The mark of this value. An edition without groups has none.
 fn mark_of(value: u8, edition: Edition) -> Option<Mark> {
-    match (edition, value) {
-        (Edition::Second, ABANDONING) => Some(Mark::Abandons),
-        (Edition::Second, 1..=8) => Some(Mark::Opens(value)),
-        (Edition::Second, 129..=136) => Some(Mark::Closes(value - CLOSING)),
+    match value {
+        _ if !edition.has_groups() => None,
+        ABANDONING => Some(Mark::Abandons),
+        1..=8 => Some(Mark::Opens(value)),
+        129..=136 => Some(Mark::Closes(value - CLOSING)),
         _ => None,
     }
 }

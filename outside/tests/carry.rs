@@ -1,11 +1,11 @@
 //! What `include/istrovell.h` tells a flash driver to do, "carrying the steps to flash": the steps that it finds by
-//! comparing flash and copy, allowance by allowance, are the steps of the plan in their order.
+//! comparing flash and copy, allowance by allowance, are the steps of the plan in their order, on either chip.
 //!
 //! A broken store that this catches: a write, or a group write, that does all its steps at allowance 1 (`Eager`).
 
 use outside::broken::Eager;
 use outside::images::{image, some_change};
-use outside::page::PAGE_BYTES;
+use outside::page::*;
 use outside::rng::{seeds, Rng};
 use outside::rules::*;
 use outside::*;
@@ -17,23 +17,23 @@ const SUBJECT: library::Library = library::Library;
 const SUBJECT: Second = Second;
 
 /// The header's `carry`: the step that takes the flash to the copy, or none if they are the same.
-fn step_between(flash: &[u8], work: &[u8]) -> Option<Step> {
+fn step_between(chip: Chip, flash: &[u8], work: &[u8]) -> Option<Step> {
     let offset = (0..flash.len()).step_by(2).find(|&at| flash[at..at + 2] != work[at..at + 2])?;
     let value = u16::from_le_bytes([work[offset], work[offset + 1]]);
     if value == 65_535 {
-        return Some(Step::Erase { page: offset / PAGE_BYTES });
+        return Some(Step::Erase { page: offset / chip.page_bytes, page_bytes: chip.page_bytes });
     }
     Some(Step::Program { offset, value })
 }
 
 /// Carries a call to the flash as the header's loop does, beside the plan.
-fn carry(image: &[u8], plan: &[Step], call: impl Fn(&mut [u8], u16) -> Stepped) -> Result<(), String> {
+fn carry(chip: Chip, image: &[u8], plan: &[Step], call: impl Fn(&mut [u8], u16) -> Stepped) -> Result<(), String> {
     let mut flash = image.to_vec();
     for allowance in 1.. {
         let mut work = image.to_vec();
         let answer = call(&mut work, allowance);
         let planned = plan.get(usize::from(allowance) - 1);
-        match (step_between(&flash, &work), planned) {
+        match (step_between(chip, &flash, &work), planned) {
             (None, None) if plan.is_empty() => {}
             (None, Some(&Step::Program { value: 65_535, .. })) => {}
             (None, Some(step @ Step::Erase { .. })) if flash[step.bytes()].iter().all(|&byte| byte == 255) => {}
@@ -60,19 +60,21 @@ struct Tally {
     idle: u64,
 }
 
-fn carry_image(store: &dyn Store, seed: u64, tally: &mut Tally) -> Result<(), String> {
-    let image = image(seed);
-    let Ok(plan) = recovery_steps(&image) else {
+fn carry_image(store: &dyn Store, seed: u64, tallies: &mut [Tally; 2]) -> Result<(), String> {
+    let (chip, image) = image(seed);
+    let tally = &mut tallies[usize::from(chip == LARGER)];
+    let size = chip.page_size();
+    let Ok(plan) = recovery_steps(&image, chip) else {
         return Ok(());
     };
-    carry(&image, &plan, |work, allowance| store.recover(work, allowance))?;
+    carry(chip, &image, &plan, |work, allowance| store.recover(work, size, allowance))?;
     tally.recoveries += 1;
     let mut recovered = image;
-    recover(&mut recovered, u16::MAX);
-    let pool: Vec<u16> = held(&recovered).into_keys().chain([7]).collect();
-    let change = some_change(&recovered, &pool, &mut Rng::new(seed));
-    if let Ok(plan) = change_steps(&recovered, &change) {
-        carry(&recovered, &plan, |work, allowance| store.change(work, &change, allowance))?;
+    recover(&mut recovered, size, u16::MAX);
+    let pool: Vec<u16> = held(&recovered, chip).into_keys().chain([7]).collect();
+    let change = some_change(&recovered, chip, &pool, &mut Rng::new(seed));
+    if let Ok(plan) = change_steps(&recovered, chip, &change) {
+        carry(chip, &recovered, &plan, |work, allowance| store.change(work, size, &change, allowance))?;
         match change {
             Change::Single(_) => tally.writes += 1,
             Change::Group(_) => tally.group_writes += 1,
@@ -86,17 +88,21 @@ fn carry_image(store: &dyn Store, seed: u64, tally: &mut Tally) -> Result<(), St
 
 #[test]
 fn the_header_finds_each_step() {
-    let mut tally = Tally::default();
-    for seed in seeds(1_500) {
-        carry_image(&SUBJECT, seed, &mut tally).unwrap_or_else(|text| panic!("ISTROVELL_SEED={seed}: {text}"));
+    let mut tallies: [Tally; 2] = Default::default();
+    let seeds = seeds(1_500);
+    for &seed in &seeds {
+        carry_image(&SUBJECT, seed, &mut tallies).unwrap_or_else(|text| panic!("ISTROVELL_SEED={seed}: {text}"));
     }
-    println!("carried: {tally:?}");
-    let met = tally.writes > 0 && tally.group_writes > 0 && tally.moves > 0 && tally.idle > 0;
-    assert!(met || tally.recoveries < 1_000);
+    for (chip, tally) in CHIPS.iter().zip(&tallies) {
+        println!("carried at {}: {tally:?}", chip.page_size());
+        let met =
+            tally.recoveries > 0 && tally.writes > 0 && tally.group_writes > 0 && tally.moves > 0 && tally.idle > 0;
+        assert!(met || seeds.len() < 1_500);
+    }
 }
 
 #[test]
 fn an_eager_store_is_caught() {
-    let caught = (0..100).find_map(|seed| carry_image(&Eager, seed, &mut Tally::default()).err());
+    let caught = (0..100).find_map(|seed| carry_image(&Eager, seed, &mut Default::default()).err());
     println!("Eager: {}", caught.expect("a broken store passed"));
 }

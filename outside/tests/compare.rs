@@ -1,20 +1,24 @@
-//! Two stores on many images: every answer and every byte of the image is compared.
+//! Two stores on many images of either chip: every answer and every byte of the image is compared, of calls that name the
+//! image's page size, the other chip's, and sizes that no chip has.
 //!
 //! With the feature `library` it is the second implementation against the library. Without it, it is the calls as
 //! `second` does them against the lists of steps of `steps`, run one step at a time.
 //!
 //! A broken store that this catches: a write that does all its steps at allowance 1 (`Eager`); the others are in
-//! `broken_stores_are_caught`, `wrong_pairings_are_caught` and `wrong_groups_are_caught`, and listings that miscount in
-//! `wrong_listings_are_caught`. ISTROVELL_IMAGES says how many images, ISTROVELL_SEED runs one alone.
+//! `broken_stores_are_caught`, `wrong_pairings_are_caught`, `wrong_groups_are_caught` and `wrong_chips_are_caught`, and
+//! listings that miscount in `wrong_listings_are_caught`. ISTROVELL_IMAGES says how many images, ISTROVELL_SEED runs one
+//! alone.
 
+use std::collections::BTreeMap;
 use std::io::Write;
 use std::process::{Command, Stdio};
 use std::time::Instant;
 
-use outside::broken::{Broken, Eager, WrongGroup, WRONG_GROUPS, WRONG_LISTINGS, WRONG_PAIRINGS, WRONG_WEARS};
-use outside::cases::{note_editions, note_group_write, note_groups, rare, Counts};
+use outside::broken::{Broken, Eager, WrongChip, WrongGroup};
+use outside::broken::{WRONG_CHIPS, WRONG_GROUPS, WRONG_LISTINGS, WRONG_PAIRINGS, WRONG_WEARS};
+use outside::cases::{note_editions, note_group_write, note_groups, note_other_size, note_slots, rare, Counts};
 use outside::guard::{note_seed, Guarded, Place};
-use outside::images::{self, some_group_size, some_value};
+use outside::images::{self, some_group_size, some_value, WRONG_SIZES};
 use outside::page::*;
 use outside::rng::{seeds, Rng};
 use outside::rules::*;
@@ -29,7 +33,7 @@ const SUBJECT: Stepwise<Second> = Stepwise(Second);
 
 #[derive(Clone, Debug)]
 enum Call {
-    Format { edition: Edition },
+    Format { second_edition: bool },
     Recover { allowance: u16 },
     Write { address: u16, value: u8, allowance: u16 },
     WriteGroup { group: Vec<u8>, allowance: u16 },
@@ -49,16 +53,24 @@ enum Answer {
 }
 
 impl Call {
-    fn on(&self, store: &dyn Store, image: &mut [u8]) -> Answer {
+    fn on(&self, store: &dyn Store, image: &mut [u8], size: u16) -> Answer {
         match *self {
-            Call::Format { edition } => Answer::Number(store.format(image, edition)),
-            Call::Recover { allowance } => Answer::Stepped(store.recover(image, allowance)),
-            Call::Write { address, value, allowance } => Answer::Stepped(store.write(image, address, value, allowance)),
-            Call::WriteGroup { ref group, allowance } => Answer::Stepped(store.write_group(image, group, allowance)),
-            Call::Read { address } => Answer::Reading(store.read(image, address)),
-            Call::BlankRead { address } => Answer::Reading(store.blank_read(image, address)),
-            Call::Lookup => Answer::Pairing(store.lookup(image)),
+            Call::Format { second_edition } => Answer::Number(store.format(image, size, second_edition)),
+            Call::Recover { allowance } => Answer::Stepped(store.recover(image, size, allowance)),
+            Call::Write { address, value, allowance } => {
+                Answer::Stepped(store.write(image, size, address, value, allowance))
+            }
+            Call::WriteGroup { ref group, allowance } => {
+                Answer::Stepped(store.write_group(image, size, group, allowance))
+            }
+            Call::Read { address } => Answer::Reading(store.read(image, size, address)),
+            Call::BlankRead { address } => Answer::Reading(store.blank_read(image, size, address)),
+            Call::Lookup => Answer::Pairing(store.lookup(image, size)),
         }
+    }
+
+    fn formats(&self) -> bool {
+        matches!(self, Call::Format { .. })
     }
 
     fn index(&self) -> usize {
@@ -88,12 +100,26 @@ impl Answer {
 /// What the run met, to show that it met everything.
 #[derive(Default)]
 struct Tally {
+    /// By the chip whose size a call names.
+    chips: [ChipTally; 2],
+    /// Calls that name a size of no chip, on a store that is accepted at its own, by size.
+    wrong_sizes: BTreeMap<u16, [u64; 7]>,
+    /// Answers by number at the other chip's size: of the image of a seed, and of what a format and calls at the chip's own
+    /// size left; by the chip.
+    at_other_size: [[u64; 10]; 2],
+    formatted_at_other_size: [[u64; 10]; 2],
+}
+
+#[derive(Default)]
+struct ChipTally {
     numbers: [[u64; 10]; 7],
     codes: Codes,
     /// Accepted writes, and accepted group writes, by the greatest number of steps they did: 0, 1, 2, 3, 4, more.
     steps: [[u64; 6]; 2],
     unfinished: u64,
-    /// The groups and editions of the images, and the cases of group writes.
+    /// Images that are accepted, by pages.
+    pages: BTreeMap<usize, u64>,
+    /// The groups, editions and slots of the images, what they are at the other size, and the cases of group writes.
     cases: Counts,
 }
 
@@ -108,11 +134,11 @@ struct Codes {
 }
 
 impl Codes {
-    fn count(&mut self, image: &[u8], answer: Pairing) {
+    fn count(&mut self, image: &[u8], chip: Chip, answer: Pairing) {
         self.whole += u64::from(answer.paired);
         self.with_a_0 += u64::from(answer.paired && answer.digits.contains(&0));
         self.with_a_255 += u64::from(answer.paired && answer.digits.contains(&255));
-        self.of_three += u64::from(!answer.paired && held(image).range(16..20).count() == 3);
+        self.of_three += u64::from(!answer.paired && held(image, chip).range(16..20).count() == 3);
     }
 
     fn assert_complete(&self) {
@@ -121,24 +147,74 @@ impl Codes {
     }
 }
 
+/// The place of a chip in the counts.
+fn index(chip: Chip) -> usize {
+    usize::from(chip == LARGER)
+}
+
+fn other(chip: Chip) -> Chip {
+    CHIPS[1 - index(chip)]
+}
+
 impl Tally {
-    fn count_image(&mut self, image: &[u8]) {
-        if test_size(image).is_ok() {
-            note_editions(image, &mut self.cases);
+    fn count_image(&mut self, image: &[u8], chip: Chip) {
+        let tally = &mut self.chips[index(chip)];
+        note_other_size(image, chip, &mut tally.cases);
+        if test_size(image, chip).is_ok() {
+            note_editions(image, chip, &mut tally.cases);
         }
-        if test_store(image).is_ok() {
-            note_groups(image, &mut self.cases);
+        if test_store(image, chip).is_ok() {
+            *tally.pages.entry(page_count(image, chip)).or_default() += 1;
+            note_groups(image, chip, &mut tally.cases);
+            note_slots(image, chip, &mut tally.cases);
         }
     }
 
-    fn count(&mut self, image: &[u8], call: &Call, answer: Answer) {
+    fn count(&mut self, image: &[u8], size: u16, call: &Call, answer: Answer) {
+        if let Ok(chip) = chip_named(size) {
+            self.chips[index(chip)].count(image, chip, call, answer);
+        }
+    }
+
+    fn print(&self) {
+        for (chip, tally) in CHIPS.iter().zip(&self.chips) {
+            println!("  calls that name {}:", chip.page_size());
+            tally.print();
+        }
+        println!("  calls that name a size of no chip: {:?}", self.wrong_sizes);
+        for (chip, numbers) in CHIPS.iter().zip(self.at_other_size) {
+            println!("  images of {} at the other size, answers by number 0 to 9: {numbers:?}", chip.page_size());
+        }
+        for (chip, numbers) in CHIPS.iter().zip(self.formatted_at_other_size) {
+            println!("  formatted at {}, at the other size, answers by number 0 to 9: {numbers:?}", chip.page_size());
+        }
+    }
+
+    /// Each chip was met in full, each call named each wrong size, and each chip's images were lent at the other size.
+    fn assert_complete(&self) {
+        self.chips.iter().for_each(ChipTally::assert_complete);
+        for size in WRONG_SIZES {
+            assert!(self.wrong_sizes[&size].iter().all(|&count| count > 0), "{size}: {:?}", self.wrong_sizes[&size]);
+        }
+        let met = |numbers: &[u64; 10], number: u8| numbers[usize::from(number)] > 0;
+        for numbers in &self.at_other_size {
+            assert!([OK, SIZE, NO_STORE, DAMAGED, UNCLEAN, NOT_HELD].iter().all(|&number| met(numbers, number)));
+        }
+        for numbers in &self.formatted_at_other_size {
+            assert!([SIZE, NO_STORE].iter().all(|&number| met(numbers, number)), "{numbers:?}");
+        }
+    }
+}
+
+impl ChipTally {
+    fn count(&mut self, image: &[u8], chip: Chip, call: &Call, answer: Answer) {
         self.numbers[call.index()][usize::from(answer.number())] += 1;
         match (call, answer) {
-            (_, Answer::Pairing(answer)) if answer.number == OK => self.codes.count(image, answer),
+            (_, Answer::Pairing(answer)) if answer.number == OK => self.codes.count(image, chip, answer),
             (Call::Write { .. }, Answer::Stepped(answer)) => self.count_steps(0, answer),
             (Call::WriteGroup { group, .. }, Answer::Stepped(answer)) => {
                 self.count_steps(1, answer);
-                note_group_write(image, group, answer, &mut self.cases);
+                note_group_write(image, chip, group, answer, &mut self.cases);
             }
             _ => {}
         }
@@ -152,6 +228,7 @@ impl Tally {
     }
 
     fn print(&self) {
+        println!("  stores by pages: {:?}", self.pages);
         for (name, numbers) in CALL_NAMES.iter().zip(self.numbers) {
             println!("  {name:11} answers by number 0 to 9: {numbers:?}");
         }
@@ -182,45 +259,56 @@ impl Tally {
                 assert_eq!(met, expected, "{} met number {number}: {met}", CALL_NAMES[call]);
             }
         }
+        assert!([2, 3, 8, 31, 32].iter().all(|pages| self.pages.contains_key(pages)), "{:?}", self.pages);
         self.codes.assert_complete();
         assert!(self.steps.iter().flatten().all(|&count| count > 0));
         assert_eq!(rare(&self.cases, 1), [""; 0], "never met");
     }
 }
 
-/// One call on both stores, from the same image. Gives the image after it.
-fn compare_call(image: &[u8], call: &Call, stores: [&dyn Store; 2], tally: &mut Tally) -> Result<Vec<u8>, String> {
+/// One call on both stores, from the same image. Gives its number and the image after it.
+fn compare_call(
+    image: &[u8],
+    size: u16,
+    call: &Call,
+    stores: [&dyn Store; 2],
+    tally: &mut Tally,
+) -> Result<(u8, Vec<u8>), String> {
     let mut images = [image.to_vec(), image.to_vec()];
-    let answers = [call.on(stores[0], &mut images[0]), call.on(stores[1], &mut images[1])];
+    let answers = [call.on(stores[0], &mut images[0], size), call.on(stores[1], &mut images[1], size)];
     if answers[0] != answers[1] {
-        return Err(format!("{call:?}: {:?} and {:?}", answers[0], answers[1]));
+        return Err(format!("{call:?} at {size}: {:?} and {:?}", answers[0], answers[1]));
     }
     if images[0] != images[1] {
         let offset = (0..image.len()).find(|&offset| images[0][offset] != images[1][offset]).expect("a byte differs");
         let (first, second) = (images[0][offset], images[1][offset]);
         return Err(format!(
-            "{call:?}: {:?}, byte {offset} is {first} and {second}, was {}",
+            "{call:?} at {size}: {:?}, byte {offset} is {first} and {second}, was {}",
             answers[0], image[offset]
         ));
     }
-    if answers[0].number() != OK && images[0] != image {
-        return Err(format!("{call:?}: refused with {:?}, yet the image changed", answers[0]));
+    let number = answers[0].number();
+    if number != OK && images[0] != image {
+        return Err(format!("{call:?} at {size}: refused with {:?}, yet the image changed", answers[0]));
     }
-    tally.count(image, call, answers[0]);
+    if WRONG_SIZES.contains(&size) && number != SIZE {
+        return Err(format!("{call:?} at {size}: {:?}", answers[0]));
+    }
+    tally.count(image, size, call, answers[0]);
     let [after, _] = images;
-    Ok(after)
+    Ok((number, after))
 }
 
 /// Held addresses, one named in any slot at all, special ones and one at random.
-fn addresses_for(image: &[u8], rng: &mut Rng) -> Vec<u16> {
+fn addresses_for(image: &[u8], chip: Chip, rng: &mut Rng) -> Vec<u16> {
     let mut addresses = Vec::new();
-    if test_size(image).is_ok() {
-        let held: Vec<u16> = held(image).into_keys().collect();
+    if test_size(image, chip).is_ok() {
+        let held: Vec<u16> = held(image, chip).into_keys().collect();
         if !held.is_empty() {
             addresses.extend([rng.pick(&held), rng.pick(&held)]);
         }
-        let page = page_at(image, rng.below(page_count(image)));
-        let word = slot_word(page, rng.below(SLOTS));
+        let page = page_at(image, chip, rng.below(page_count(image, chip)));
+        let word = slot_word(page, rng.below(chip.slots()));
         addresses.push(u16::from_le_bytes([word[0], word[1]]));
     }
     addresses.extend([rng.below(65_536) as u16, 16 + rng.below(4) as u16, 65_534, NO_ADDRESS]);
@@ -232,13 +320,13 @@ fn some_allowance(rng: &mut Rng) -> u16 {
     rng.pick(&[0, 1, 2, 3, 4, random, random, u16::MAX])
 }
 
-fn held_value(image: &[u8], address: u16) -> Option<u8> {
-    test_store(image).ok().and_then(|()| value(image, address))
+fn held_value(image: &[u8], chip: Chip, address: u16) -> Option<u8> {
+    test_store(image, chip).ok().and_then(|()| value(image, chip, address))
 }
 
 /// As many as are worth trying for a change: at its ends, in it, and none too few or too many.
-fn allowances_for(image: &[u8], change: &Change, rng: &mut Rng) -> [u16; 8] {
-    let length = change_steps(image, change).map_or(0, |steps| steps.len());
+fn allowances_for(image: &[u8], chip: Chip, change: &Change, rng: &mut Rng) -> [u16; 8] {
+    let length = change_steps(image, chip, change).map_or(0, |steps| steps.len());
     let before_the_end = length.saturating_sub(1 + rng.below(8)) as u16;
     let inside = rng.below(length + 1) as u16;
     [0, 1, 2, 3, inside, before_the_end, length as u16, u16::MAX]
@@ -246,15 +334,15 @@ fn allowances_for(image: &[u8], change: &Change, rng: &mut Rng) -> [u16; 8] {
 
 /// The first address gets every allowance; each gets one for the value that a blank read gives, which takes steps only if it
 /// isn't held, or for any.
-fn writes_for(image: &[u8], addresses: &[u16], rng: &mut Rng) -> Vec<Call> {
+fn writes_for(image: &[u8], chip: Chip, addresses: &[u16], rng: &mut Rng) -> Vec<Call> {
     let mut calls = Vec::new();
     let main = addresses[0];
-    let other = held_value(image, main).unwrap_or(rng.byte()).wrapping_add(1 + rng.below(255) as u8);
-    for allowance in allowances_for(image, &Change::Single((main, other)), rng) {
+    let other = held_value(image, chip, main).unwrap_or(rng.byte()).wrapping_add(1 + rng.below(255) as u8);
+    for allowance in allowances_for(image, chip, &Change::Single((main, other)), rng) {
         calls.push(Call::Write { address: main, value: other, allowance });
     }
     for &address in addresses {
-        let value = if rng.one_in(2) { held_value(image, address).unwrap_or(0) } else { some_value(rng) };
+        let value = if rng.one_in(2) { held_value(image, chip, address).unwrap_or(0) } else { some_value(rng) };
         calls.push(Call::Write { address, value, allowance: some_allowance(rng) });
     }
     calls
@@ -267,12 +355,12 @@ struct Room {
 }
 
 impl Room {
-    fn of(image: &[u8]) -> Room {
-        if test_store(image).is_err() {
+    fn of(image: &[u8], chip: Chip) -> Room {
+        if test_store(image, chip).is_err() {
             return Room { held: Vec::new(), free: 0 };
         }
-        let active = page_at(image, active_page(image).page);
-        Room { held: held(image).into_iter().collect(), free: free_slots(active).len() }
+        let active = page_at(image, chip, active_page(image, chip).page);
+        Room { held: held(image, chip).into_iter().collect(), free: free_slots(active).len() }
     }
 
     /// This many of the held settings, or all if there are fewer.
@@ -328,11 +416,11 @@ impl Room {
 }
 
 /// One group gets every allowance. The others are held already, or but for one setting, or are wrong.
-fn groups_for(image: &[u8], rng: &mut Rng) -> Vec<Call> {
-    let room = Room::of(image);
+fn groups_for(image: &[u8], chip: Chip, rng: &mut Rng) -> Vec<Call> {
+    let room = Room::of(image, chip);
     let main = room.some_group(rng);
     let group = group_bytes(&main);
-    let allowances = allowances_for(image, &Change::Group(main), rng);
+    let allowances = allowances_for(image, chip, &Change::Group(main), rng);
     let mut calls = allowances.map(|allowance| Call::WriteGroup { group: group.clone(), allowance }).to_vec();
     let count = some_group_size(room.free, rng);
     let all_held = room.some_held(count, rng);
@@ -347,52 +435,119 @@ fn groups_for(image: &[u8], rng: &mut Rng) -> Vec<Call> {
     calls
 }
 
-fn calls_for(image: &[u8], rng: &mut Rng) -> Vec<Call> {
-    let addresses = addresses_for(image, rng);
+fn calls_for(image: &[u8], chip: Chip, rng: &mut Rng) -> Vec<Call> {
+    let addresses = addresses_for(image, chip, rng);
     let mut calls = vec![Call::Lookup];
-    calls.extend(EDITIONS.map(|edition| Call::Format { edition }));
+    calls.extend([false, true].map(|second_edition| Call::Format { second_edition }));
     for allowance in [0, 1 + rng.below(3) as u16, rng.below(96) as u16, u16::MAX] {
         calls.push(Call::Recover { allowance });
     }
     for &address in &addresses {
         calls.extend([Call::Read { address }, Call::BlankRead { address }]);
     }
-    calls.extend(writes_for(image, &addresses, rng));
-    calls.extend(groups_for(image, rng));
+    calls.extend(writes_for(image, chip, &addresses, rng));
+    calls.extend(groups_for(image, chip, rng));
     calls
 }
 
+/// The call of this index, with arguments that suit the image.
+fn some_call(which: usize, image: &[u8], chip: Chip, rng: &mut Rng) -> Call {
+    let addresses = addresses_for(image, chip, rng);
+    let address = rng.pick(&addresses);
+    let allowance = some_allowance(rng);
+    match which {
+        0 => Call::Format { second_edition: rng.one_in(2) },
+        1 => Call::Recover { allowance },
+        2 => Call::Write { address, value: some_value(rng), allowance },
+        3 => Call::WriteGroup { group: group_bytes(&Room::of(image, chip).some_group(rng)), allowance },
+        4 => Call::Read { address },
+        5 => Call::BlankRead { address },
+        _ => Call::Lookup,
+    }
+}
+
 /// All seven calls on the image of this seed; and both writes on the recovered image too, because most crafted images are
-/// unclean, and on what the first write leaves, with a lookup at last.
+/// unclean, and on what the first write leaves, with a lookup at last. Then calls that name other sizes.
 fn compare_image(seed: u64, stores: [&dyn Store; 2], tally: &mut Tally) -> Result<(), String> {
     let mut rng = Rng::new(!seed);
-    let image = images::image(seed);
-    tally.count_image(&image);
-    for call in calls_for(&image, &mut rng) {
-        compare_call(&image, &call, stores, tally)?;
+    let (chip, image) = images::image(seed);
+    let size = chip.page_size();
+    tally.count_image(&image, chip);
+    let calls = calls_for(&image, chip, &mut rng);
+    for call in &calls {
+        compare_call(&image, size, call, stores, tally)?;
     }
-    let recovered = compare_call(&image, &Call::Recover { allowance: u16::MAX }, stores, tally)?;
+    let (_, recovered) = compare_call(&image, size, &Call::Recover { allowance: u16::MAX }, stores, tally)?;
     let mut latest = recovered.clone();
-    let addresses = addresses_for(&recovered, &mut rng);
+    let addresses = addresses_for(&recovered, chip, &mut rng);
     if recovered != image {
-        let writes = writes_for(&recovered, &addresses, &mut rng);
-        for call in writes.into_iter().chain(groups_for(&recovered, &mut rng)) {
-            compare_call(&recovered, &call, stores, tally)?;
+        let writes = writes_for(&recovered, chip, &addresses, &mut rng);
+        for call in writes.into_iter().chain(groups_for(&recovered, chip, &mut rng)) {
+            compare_call(&recovered, size, &call, stores, tally)?;
         }
     }
     for address in addresses {
         let call = Call::Write { address, value: some_value(&mut rng), allowance: u16::MAX };
-        latest = compare_call(&latest, &call, stores, tally)?;
-        compare_call(&latest, &Call::Read { address }, stores, tally)?;
+        (_, latest) = compare_call(&latest, size, &call, stores, tally)?;
+        compare_call(&latest, size, &Call::Read { address }, stores, tally)?;
     }
     for _ in 0..3 {
-        let group = Room::of(&latest).some_group(&mut rng);
+        let group = Room::of(&latest, chip).some_group(&mut rng);
         let (address, _) = group[0];
         let call = Call::WriteGroup { group: group_bytes(&group), allowance: u16::MAX };
-        latest = compare_call(&latest, &call, stores, tally)?;
-        compare_call(&latest, &Call::Read { address }, stores, tally)?;
+        (_, latest) = compare_call(&latest, size, &call, stores, tally)?;
+        compare_call(&latest, size, &Call::Read { address }, stores, tally)?;
     }
-    compare_call(&latest, &Call::Lookup, stores, tally)?;
+    compare_call(&latest, size, &Call::Lookup, stores, tally)?;
+    compare_other_sizes(&image, chip, &calls, &mut rng, stores, tally)?;
+    compare_in_turn(image, chip, &mut rng, stores, tally)
+}
+
+/// Each call with the other chip's size, and each of these with a size that no chip has.
+fn compare_other_sizes(
+    image: &[u8],
+    chip: Chip,
+    calls: &[Call],
+    rng: &mut Rng,
+    stores: [&dyn Store; 2],
+    tally: &mut Tally,
+) -> Result<(), String> {
+    let accepted = test_store(image, chip).is_ok();
+    for which in 0..CALL_NAMES.len() {
+        let call = some_call(which, image, other(chip), rng);
+        let (number, _) = compare_call(image, other(chip).page_size(), &call, stores, tally)?;
+        tally.at_other_size[index(chip)][usize::from(number)] += u64::from(!call.formats());
+        let alike: Vec<&Call> = calls.iter().filter(|call| call.index() == which).collect();
+        let wrong_size = rng.pick(&WRONG_SIZES);
+        compare_call(image, wrong_size, rng.pick(&alike), stores, tally)?;
+        tally.wrong_sizes.entry(wrong_size).or_default()[which] += u64::from(accepted);
+    }
+    Ok(())
+}
+
+/// Calls that name either size, on one image in turn. Nothing is promised of them, and still both stores do the same.
+fn compare_in_turn(
+    mut image: Vec<u8>,
+    chip: Chip,
+    rng: &mut Rng,
+    stores: [&dyn Store; 2],
+    tally: &mut Tally,
+) -> Result<(), String> {
+    let mut formatted = None;
+    for _ in 0..5 {
+        let named = if rng.one_in(2) { chip } else { other(chip) };
+        let call = some_call(rng.below(CALL_NAMES.len()), &image, named, rng);
+        let (number, after) = compare_call(&image, named.page_size(), &call, stores, tally)?;
+        if formatted == Some(other(named)) && !call.formats() {
+            tally.formatted_at_other_size[index(other(named))][usize::from(number)] += 1;
+        }
+        if call.formats() && number == OK {
+            formatted = Some(named);
+        } else if formatted != Some(named) && after != image {
+            formatted = None;
+        }
+        image = after;
+    }
     Ok(())
 }
 
@@ -429,13 +584,14 @@ fn both_stores_agree() {
     }
 }
 
-/// The forward and the backward search of the second implementation, and its listing, say the same.
+/// The forward and the backward search of the second implementation, and its listing, say the same. An image of the larger
+/// chip is listed as what it is at 1,024.
 #[test]
 fn the_listing_agrees_with_reads() {
     for seed in seeds(2_000) {
-        let image = images::image(seed);
+        let (_, image) = images::image(seed);
         let text = String::from_utf8(listing(&image)).unwrap();
-        let recovery = recover(&mut image.clone(), 0);
+        let recovery = recover(&mut image.clone(), SMALLER.page_size(), 0);
         if recovery.number != OK {
             assert_eq!(text, format!("refused {}\n", recovery.number), "seed {seed}");
             continue;
@@ -445,7 +601,7 @@ fn the_listing_agrees_with_reads() {
         assert_eq!(lines.clone().count().to_string(), from_held.split(' ').next().unwrap(), "seed {seed}");
         for line in lines {
             let (address, value) = line.split_once(' ').unwrap();
-            let reading = read(&image, address.parse().unwrap());
+            let reading = read(&image, SMALLER.page_size(), address.parse().unwrap());
             assert_eq!((reading.number, reading.value.to_string()), (OK, value.to_string()), "seed {seed}");
         }
     }
@@ -481,7 +637,7 @@ const LISTED: u64 = 1_000;
 /// Runs the seeds and stops at the first whose image is not listed as the second implementation lists it.
 fn compare_listings(seeds: &[u64], print: impl Fn(&[u8]) -> Vec<u8>) -> Result<(), String> {
     for &seed in seeds {
-        let image = images::image(seed);
+        let (_, image) = images::image(seed);
         let [printed, listed] = [print(&image), listing(&image)].map(|text| String::from_utf8(text).unwrap());
         if printed != listed {
             return Err(format!("ISTROVELL_SEED={seed}: {printed:?} and {listed:?}"));
@@ -543,7 +699,22 @@ fn wrong_groups_are_caught() {
         println!("{wrong:?}: {text}");
     }
     let stores = [&Second as &dyn Store, leak(Stepwise(WrongGroup::Nothing))];
-    compare_seeds(&seeds, |_| stores, &mut Tally::default()).expect("nothing is wrong here");
+    compare_seeds(&seeds[..1_000], |_| stores, &mut Tally::default()).expect("nothing is wrong here");
+}
+
+/// The same of a store that is wrong in the larger chip or in page sizes.
+#[test]
+fn wrong_chips_are_caught() {
+    let seeds: Vec<u64> = (0..2_000).collect();
+    for wrong in WRONG_CHIPS {
+        let stores = [&Second as &dyn Store, leak(Stepwise(wrong))];
+        let Err(text) = compare_seeds(&seeds, |_| stores, &mut Tally::default()) else {
+            panic!("{wrong:?} was not caught");
+        };
+        println!("{wrong:?}: {text}");
+    }
+    let stores = [&Second as &dyn Store, leak(Stepwise(WrongChip::Nothing))];
+    compare_seeds(&seeds[..500], |_| stores, &mut Tally::default()).expect("nothing is wrong here");
 }
 
 #[test]
@@ -573,25 +744,25 @@ impl Overreaching {
 }
 
 impl Store for Overreaching {
-    fn format(&self, _: &mut [u8], _: Edition) -> u8 {
+    fn format(&self, _: &mut [u8], _: u16, _: bool) -> u8 {
         SIZE
     }
-    fn recover(&self, _: &mut [u8], _: u16) -> Stepped {
+    fn recover(&self, _: &mut [u8], _: u16, _: u16) -> Stepped {
         Stepped::refused(SIZE)
     }
-    fn write(&self, _: &mut [u8], _: u16, _: u8, _: u16) -> Stepped {
+    fn write(&self, _: &mut [u8], _: u16, _: u16, _: u8, _: u16) -> Stepped {
         Stepped::refused(SIZE)
     }
-    fn write_group(&self, _: &mut [u8], group: &[u8], _: u16) -> Stepped {
+    fn write_group(&self, _: &mut [u8], _: u16, group: &[u8], _: u16) -> Stepped {
         Stepped::refused(self.byte_beside(group))
     }
-    fn read(&self, image: &[u8], _: u16) -> Reading {
+    fn read(&self, image: &[u8], _: u16, _: u16) -> Reading {
         Reading { number: OK, value: self.byte_beside(image) }
     }
-    fn blank_read(&self, image: &[u8], address: u16) -> Reading {
-        self.read(image, address)
+    fn blank_read(&self, image: &[u8], size: u16, address: u16) -> Reading {
+        self.read(image, size, address)
     }
-    fn lookup(&self, _: &[u8]) -> Pairing {
+    fn lookup(&self, _: &[u8], _: u16) -> Pairing {
         Pairing::refused(SIZE)
     }
 }
@@ -602,9 +773,9 @@ fn overreach(side: &str) {
     let place = if after { Place::BeforeEndGuard } else { Place::AfterStartGuard };
     let store = Guarded::new(Overreaching { after }, place);
     if side.ends_with("the image") {
-        store.read(&[255; 2_048], 0);
+        store.read(&[255; 2_048], 1_024, 0);
     } else {
-        store.write_group(&mut [255; 2_048], &[5, 0, 65], 0);
+        store.write_group(&mut [255; 2_048], 1_024, &[5, 0, 65], 0);
     }
 }
 

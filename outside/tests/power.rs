@@ -1,16 +1,17 @@
 //! The power-cut run: histories of writes and group writes in which power fails at every step of every examined one, in
 //! several ways, and then in the recoveries after it. Demand 3 is tested through the store's own reads, blank reads and
-//! lookups.
+//! lookups. Each history is of one chip, whose page size all its calls name.
 //!
 //! The steps come from a plan, the second implementation's; that the store under test does the same steps is tested by
 //! its image after each allowance. A broken store that this catches: a move that erases the old pages before the done
-//! word (clause 1). `broken_stores_are_caught` and `wrong_groups_are_caught` have one for each clause of demand 3; there the
-//! plan is the broken store's own, so that only the clauses can catch it. ISTROVELL_SEED runs one history alone.
+//! word (clause 1). `broken_stores_are_caught` and `wrong_groups_are_caught` have one for each clause of demand 3, and
+//! `wrong_chips_are_caught` some that are wrong in the larger chip alone; there the plan is the broken store's own, so that
+//! only the clauses can catch it. ISTROVELL_SEED runs one history alone.
 
 use std::collections::BTreeMap;
 use std::time::Instant;
 
-use outside::broken::{Broken, Eager, WrongGroup, WrongPairing, WRONG_PAIRINGS, WRONG_WEARS};
+use outside::broken::{Broken, Eager, WrongChip, WrongGroup, WrongPairing, WRONG_PAIRINGS, WRONG_WEARS};
 use outside::failing::*;
 use outside::guard::{note_seed, Guarded, Place};
 use outside::images::{fill_active, some_addresses, some_change, some_value};
@@ -51,7 +52,7 @@ type Outcome<T> = Result<T, (Clause, String)>;
 struct History {
     seed: u64,
     pages: usize,
-    /// In the second most writes are group writes.
+    /// It says which chip it is, too. Where there are groups, most writes are group writes.
     edition: Edition,
     /// How many addresses are held from the start.
     held: usize,
@@ -69,6 +70,12 @@ struct History {
     worn: Option<Worn>,
 }
 
+impl History {
+    fn chip(&self) -> Chip {
+        Chip::of(self.edition)
+    }
+}
+
 #[derive(Clone, Copy)]
 struct Worn {
     /// The greatest wear that a page has.
@@ -84,13 +91,13 @@ const fn worn(greatest: u16, lost: usize) -> Option<Worn> {
 impl Worn {
     /// Gives each page the greatest wear or one or two less, then takes the wear words from the cleared ones that are to
     /// have none.
-    fn wear_out(self, image: &mut [u8]) {
-        let edition = edition(image);
-        for (index, page) in image.chunks_exact_mut(PAGE_BYTES).enumerate() {
+    fn wear_out(self, image: &mut [u8], chip: Chip) {
+        let edition = edition(image, chip);
+        for (index, page) in chip.pages_mut(image).enumerate() {
             page[WEAR_OFFSET..WEAR_OFFSET + 4].copy_from_slice(&wear_word(self.greatest - index as u16 % 3, edition));
         }
-        for (page, _) in cleared_pages(image).into_iter().take(self.lost) {
-            image[page * PAGE_BYTES..(page + 1) * PAGE_BYTES].fill(255);
+        for (page, _) in cleared_pages(image, chip).into_iter().take(self.lost) {
+            image[chip.page_range(page)].fill(255);
         }
     }
 }
@@ -98,12 +105,15 @@ impl Worn {
 #[derive(Default)]
 struct Report {
     failures: BTreeMap<(&'static str, Failing), u64>,
-    /// Of the failures, those in a group write.
+    /// Of the failures, those in a group write, and those on the larger chip.
     failed_groups: u64,
+    failed_on_larger: u64,
     recoveries: BTreeMap<&'static str, u64>,
-    /// Examined writes and group writes, by what they do and by pages.
-    writes: BTreeMap<(Way, usize), u64>,
-    group_writes: BTreeMap<(Way, usize), u64>,
+    /// Examined writes and group writes, by page size, by what they do and by pages.
+    writes: BTreeMap<(u16, Way, usize), u64>,
+    group_writes: BTreeMap<(u16, Way, usize), u64>,
+    /// Group writes that stand on both sides of the middle of a larger page.
+    over_the_middle: u64,
     left_old: u64,
     left_new: u64,
     /// How often the history went on from an open group in a full page.
@@ -124,18 +134,24 @@ enum Way {
     Moves,
 }
 
-fn way(steps: &[Step]) -> Way {
+fn way(chip: Chip, steps: &[Step]) -> Way {
     match steps.first() {
         None => Way::Stays,
         _ if steps.iter().any(|step| matches!(step, Step::Erase { .. })) => Way::Moves,
-        Some(step) if step.bytes().start % PAGE_BYTES == OPENING_OFFSET => Way::OpensAPage,
+        Some(step) if step.bytes().start % chip.page_bytes == OPENING_OFFSET => Way::OpensAPage,
         Some(_) => Way::Appends,
     }
 }
 
+/// Whether a write stands on both sides of the middle of a larger page.
+fn is_over_the_middle(chip: Chip, steps: &[Step]) -> bool {
+    let sides = steps.iter().map(|step| step.bytes().start % chip.page_bytes >= SMALLER.page_bytes);
+    way(chip, steps) == Way::Appends && sides.clone().any(|behind| behind) && sides.clone().any(|behind| !behind)
+}
+
 /// Whether a recovery begins with the mark that abandons: it programs no other slot.
-fn abandons(steps: &[Step]) -> bool {
-    matches!(steps[0], Step::Program { offset, .. } if offset % PAGE_BYTES >= slot_offset(0))
+fn abandons(chip: Chip, steps: &[Step]) -> bool {
+    matches!(steps[0], Step::Program { offset, .. } if offset % chip.page_bytes >= slot_offset(0))
 }
 
 impl Report {
@@ -149,9 +165,11 @@ impl Report {
     }
 
     fn print(&self) {
-        println!("  examined writes, by what they do and by pages: {:?}", self.writes);
+        println!("  examined writes, by page size, by what they do and by pages: {:?}", self.writes);
         println!("  examined group writes: {:?}", self.group_writes);
         println!("  failed writes, groups among them: {}", self.failed_writes());
+        println!("  of these on the larger chip: {}", self.failed_on_larger);
+        println!("  group writes over the middle of a larger page: {}", self.over_the_middle);
         for ((step, failing), count) in &self.failures {
             println!("    {step:7} {failing:?}: {count}");
         }
@@ -170,6 +188,7 @@ struct Run<'a> {
     store: &'a dyn Store,
     plan: &'a dyn Plan,
     history: History,
+    chip: Chip,
     rng: Rng,
     pool: Vec<u16>,
     /// What each held address is to answer.
@@ -215,9 +234,9 @@ struct Left {
 }
 
 impl Left {
-    fn of(image: Vec<u8>, new: bool) -> Left {
-        let active = used_pages(&image).first().map(|active| page_at(&image, active.page));
-        let dead = active.is_some_and(|active| has_open_group(active, edition(&image)));
+    fn of(image: Vec<u8>, chip: Chip, new: bool) -> Left {
+        let active = used_pages(&image, chip).first().map(|active| page_at(&image, chip, active.page));
+        let dead = active.is_some_and(|active| has_open_group(active, edition(&image, chip)));
         Left { image, new, dead }
     }
 }
@@ -248,7 +267,7 @@ fn demand(holds: bool, clause: Clause, text: impl FnOnce() -> String) -> Outcome
 impl Run<'_> {
     /// Stops when something was lost: from then on the model says nothing.
     fn go(&mut self) {
-        let mut image = vec![0x5A; self.history.pages * PAGE_BYTES];
+        let mut image = vec![0x5A; self.history.pages * self.chip.page_bytes];
         let begun = self.begin(&mut image).and_then(|()| self.wear_out(&mut image));
         if let Err(lost) = begun {
             return self.report.lose(lost);
@@ -258,7 +277,7 @@ impl Run<'_> {
             self.fast_forward(&mut image);
             let change = self.some_change(&image);
             let steps = self.steps(&image, &change);
-            if self.history.only_moves && way(&steps) != Way::Moves {
+            if self.history.only_moves && way(self.chip, &steps) != Way::Moves {
                 self.change_quietly(&mut image, &change);
             } else {
                 image = self.examine_change(&image, &change, &steps);
@@ -267,13 +286,18 @@ impl Run<'_> {
         }
     }
 
+    /// The size that all calls name.
+    fn page_size(&self) -> u16 {
+        self.chip.page_size()
+    }
+
     fn begin(&mut self, image: &mut [u8]) -> Outcome<()> {
-        let edition = self.history.edition;
+        let second_edition = self.history.edition == Edition::Second;
         let mut planned = image.to_vec();
-        for step in self.plan.format_steps(image, edition).expect("the size is right") {
+        for step in self.plan.format_steps(image, self.chip, second_edition).expect("the size is right") {
             do_step(&mut planned, step);
         }
-        let number = self.store.format(image, edition);
+        let number = self.store.format(image, self.page_size(), second_edition);
         demand(number == OK && image == planned, Clause::Steps, || format!("format answers {number}"))?;
         for index in 0..self.history.held {
             let value = some_value(&mut self.rng);
@@ -288,7 +312,7 @@ impl Run<'_> {
         let Some(worn) = self.history.worn else {
             return Ok(());
         };
-        worn.wear_out(image);
+        worn.wear_out(image, self.chip);
         let steps = self.recovery_steps(image)?;
         let address = self.rng.pick(&self.pool);
         let same = held_or_not(self.model.get(&address));
@@ -312,7 +336,7 @@ impl Run<'_> {
 
     /// Three digits of a pairing code are held, and power fails at every step of the write of the last.
     fn complete_a_code(&mut self, last: LastDigit) -> Outcome<()> {
-        let mut image = vec![0x5A; last.pages * PAGE_BYTES];
+        let mut image = vec![0x5A; last.pages * self.chip.page_bytes];
         self.begin(&mut image)?;
         let address = self.pool.remove(last.place);
         for other in self.pool.clone() {
@@ -328,7 +352,7 @@ impl Run<'_> {
 
     /// A code is written as a group, over another or where there was none, and power fails at every step.
     fn write_a_code(&mut self, code: Code) -> Outcome<()> {
-        let mut image = vec![0x5A; code.pages * PAGE_BYTES];
+        let mut image = vec![0x5A; code.pages * self.chip.page_bytes];
         self.begin(&mut image)?;
         self.fill_if(code.full, &mut image);
         let steps = self.steps(&image, &code.change());
@@ -340,18 +364,18 @@ impl Run<'_> {
     fn fill_if(&mut self, full: bool, image: &mut [u8]) {
         if full {
             let addresses: Vec<u16> = self.model.keys().copied().collect();
-            fill_active(image, SLOTS, &addresses, &mut self.rng);
-            self.model = held(image);
+            fill_active(image, self.chip, self.chip.slots(), &addresses, &mut self.rng);
+            self.model = held(image, self.chip);
         }
     }
 
     fn steps(&self, image: &[u8], change: &Change) -> Vec<Step> {
-        self.plan.change_steps(image, change).expect("the plan accepts the writes of a history")
+        self.plan.change_steps(image, self.chip, change).expect("the plan accepts the writes of a history")
     }
 
     /// Now and then it has the values already held, and takes no step.
     fn some_change(&mut self, image: &[u8]) -> Change {
-        let mut change = some_change(image, &self.pool, &mut self.rng);
+        let mut change = some_change(image, self.chip, &self.pool, &mut self.rng);
         if self.rng.one_in(20) {
             for (address, value) in change.settings_mut() {
                 *value = self.model.get(address).copied().unwrap_or(*value);
@@ -368,18 +392,22 @@ impl Run<'_> {
         self.model.extend(change.settings().iter().copied());
     }
 
-    /// Goes on to where the next page is needed, or some writes nearer to it.
+    /// Goes on to where the next page is needed, or some writes nearer to it, or to the middle of a larger page.
     fn fast_forward(&mut self, image: &mut [u8]) {
         if self.history.fast && self.rng.one_in(2) {
             let addresses: Vec<u16> = self.model.keys().copied().collect();
-            let room = free_slots(page_at(image, active_page(image).page)).len();
-            let left = if self.history.edition == Edition::Second { 12 } else { 3 };
-            fill_active(image, room.saturating_sub(self.rng.below(left)), &addresses, &mut self.rng);
-            self.model = held(image);
+            let mut free = free_slots(page_at(image, self.chip, active_page(image, self.chip).page));
+            if self.chip == LARGER && free.start < SMALLER.slots() && self.rng.one_in(2) {
+                free.end = SMALLER.slots();
+            }
+            let left = if self.history.edition.has_groups() { 12 } else { 3 };
+            let count = free.len().saturating_sub(self.rng.below(left));
+            fill_active(image, self.chip, count, &addresses, &mut self.rng);
+            self.model = held(image, self.chip);
         } else if !self.history.fast {
             for _ in 0..self.rng.below(4) {
                 let change = self.some_change(image);
-                if matches!(way(&self.steps(image, &change)), Way::Stays | Way::Appends) {
+                if matches!(way(self.chip, &self.steps(image, &change)), Way::Stays | Way::Appends) {
                     self.change_quietly(image, &change);
                 }
             }
@@ -400,7 +428,7 @@ impl Run<'_> {
         if let Err(lost) = self.check_allowances(change, &written, &stages) {
             self.report.lose(lost);
         }
-        let mut next = Left::of(stages[steps.len()].clone(), true);
+        let mut next = Left::of(stages[steps.len()].clone(), self.chip, true);
         let mut new_before = None;
         for (at, &step) in steps.iter().enumerate() {
             let left = self.examine_step(&stages[at], step, at, &written, new_before);
@@ -439,7 +467,7 @@ impl Run<'_> {
             let outcome =
                 self.examine_failure(&mut image, written).and_then(|new| later(new, new_before).map(|()| new));
             match outcome {
-                Ok(new) => all_left.push(Left::of(image, new)),
+                Ok(new) => all_left.push(Left::of(image, self.chip, new)),
                 Err((clause, text)) => self
                     .report
                     .lose((clause, format!("{text}, after {failing:?} in step {at}, {step:?}, of {written:?}"))),
@@ -456,17 +484,20 @@ impl Run<'_> {
     }
 
     fn count_change(&mut self, change: &Change, steps: &[Step]) {
+        let kind = (self.page_size(), way(self.chip, steps), self.history.pages);
         let counts = match change {
             Change::Single(_) => &mut self.report.writes,
             Change::Group(_) => &mut self.report.group_writes,
         };
-        *counts.entry((way(steps), self.history.pages)).or_default() += 1;
+        *counts.entry(kind).or_default() += 1;
+        self.report.over_the_middle += u64::from(is_over_the_middle(self.chip, steps));
     }
 
     fn count_failure(&mut self, step: Step, failing: Failing, grouped: bool) {
         let name = if matches!(step, Step::Erase { .. }) { "erase" } else { "program" };
         *self.report.failures.entry((name, failing)).or_default() += 1;
         self.report.failed_groups += u64::from(grouped);
+        self.report.failed_on_larger += u64::from(self.chip == LARGER);
     }
 
     /// The store does the plan's steps, and what it finished it finds.
@@ -477,7 +508,7 @@ impl Run<'_> {
         for allowance in (0..=steps).chain([usize::from(u16::MAX)]) {
             let done = allowance.min(steps);
             let mut after = stages[0].clone();
-            let answer = self.store.change(&mut after, change, allowance as u16);
+            let answer = self.store.change(&mut after, self.page_size(), change, allowance as u16);
             let expected = Stepped { number: OK, finished: done == steps, steps: done as u16 };
             let same = answer == expected && after == stages[done];
             demand(same, Clause::Steps, || {
@@ -521,7 +552,7 @@ impl Run<'_> {
             (0..self.pool.len().min(self.history.watched)).map(|index| self.pool[(start + index) % self.pool.len()]);
         for address in others.chain(never).filter(|&address| !written.names(address)) {
             let before = held_or_not(self.model.get(&address));
-            let answer = self.store.read(image, address);
+            let answer = self.store.read(image, self.page_size(), address);
             self.report.reads += 1;
             demand(answer == before, Clause::Others, || format!("{address} answered {before:?}, now {answer:?}"))?;
         }
@@ -539,7 +570,7 @@ impl Run<'_> {
     fn check_written(&mut self, image: &[u8], written: &Written) -> Outcome<(bool, bool)> {
         let mut answers = BTreeMap::new();
         for changed in &written.settings {
-            let answer = self.store.read(image, changed.address);
+            let answer = self.store.read(image, self.page_size(), changed.address);
             self.report.reads += 1;
             demand(answer == changed.old || answer == changed.new, Clause::Written, || {
                 format!("the written address {} answers {answer:?}", changed.address)
@@ -559,7 +590,7 @@ impl Run<'_> {
     /// whole, and one that the write completes is whole exactly if the new values are there.
     fn check_blank(&mut self, image: &[u8], written: &BTreeMap<u16, Reading>) -> Outcome<()> {
         for (&address, read) in written {
-            let blank = self.store.blank_read(image, address);
+            let blank = self.store.blank_read(image, self.page_size(), address);
             demand(blank == Reading { number: OK, value: read.value }, Clause::Blank, || {
                 format!("the written address {address} answers {read:?}, and blank {blank:?}")
             })?;
@@ -567,7 +598,7 @@ impl Run<'_> {
         let reads = |address| written.get(&address).copied().unwrap_or_else(|| held_or_not(self.model.get(&address)));
         let code = [16, 17, 18, 19].map(reads);
         let paired = code.iter().all(|read| read.number == OK);
-        let found = self.store.lookup(image);
+        let found = self.store.lookup(image, self.page_size());
         demand(found == Pairing { number: OK, paired, digits: code.map(|read| read.value) }, Clause::Blank, || {
             format!("the code reads {code:?}, and the lookup finds {found:?}")
         })?;
@@ -576,7 +607,9 @@ impl Run<'_> {
     }
 
     fn recovery_steps(&self, image: &[u8]) -> Outcome<Vec<Step>> {
-        self.plan.recovery_steps(image).map_err(|number| (Clause::Others, format!("recovery is refused with {number}")))
+        self.plan
+            .recovery_steps(image, self.chip)
+            .map_err(|number| (Clause::Others, format!("recovery is refused with {number}")))
     }
 
     /// A recovery that is cut, by its allowance or by a failing step.
@@ -590,7 +623,11 @@ impl Run<'_> {
             *self.report.recoveries.entry("cut by allowance").or_default() += 1;
             return self.check_recovery(image, &steps, at as u16);
         }
-        let name = if at < 2 && abandons(&steps) { "with a failing abandon mark" } else { "with another failing step" };
+        let name = if at < 2 && abandons(self.chip, &steps) {
+            "with a failing abandon mark"
+        } else {
+            "with another failing step"
+        };
         *self.report.recoveries.entry(name).or_default() += 1;
         steps[..at].iter().for_each(|&step| do_step(image, step));
         fail_somehow(image, steps[at], &mut self.rng);
@@ -605,11 +642,9 @@ impl Run<'_> {
         let left = self.recovery_steps(image)?;
         demand(left.is_empty(), Clause::Finished, || format!("a finished recovery leaves {left:?}"))?;
         let setting = (self.pool[0], some_value(&mut self.rng));
-        let change = match self.history.edition {
-            Edition::First => Change::Single(setting),
-            Edition::Second => Change::Group(vec![setting]),
-        };
-        let number = self.store.change(&mut image.to_vec(), &change, 0).number;
+        let change =
+            if self.history.edition.has_groups() { Change::Group(vec![setting]) } else { Change::Single(setting) };
+        let number = self.store.change(&mut image.to_vec(), self.page_size(), &change, 0).number;
         demand(number == OK, Clause::Finished, || format!("after a finished recovery {change:?} answers {number}"))
     }
 
@@ -618,7 +653,7 @@ impl Run<'_> {
         let done = steps.len().min(usize::from(allowance));
         let mut planned = image.to_vec();
         steps[..done].iter().for_each(|&step| do_step(&mut planned, step));
-        let answer = self.store.recover(image, allowance);
+        let answer = self.store.recover(image, self.page_size(), allowance);
         let expected = Stepped { number: OK, finished: done == steps.len(), steps: done as u16 };
         demand(answer == expected && image == planned, Clause::Steps, || {
             format!("recovery with allowance {allowance}: {answer:?}")
@@ -639,7 +674,7 @@ fn run(history: History, store: &dyn Store, plan: &dyn Plan, report: &mut Report
     // Two addresses more than are held at first, so that some writes are the first of their address.
     let pool = some_addresses(&mut rng, (history.held + 2).min(MOST_HELD));
     let lost_before = report.lost.clone();
-    Run { store, plan, history, rng, pool, model: BTreeMap::new(), report }.go();
+    Run { store, plan, history, chip: history.chip(), rng, pool, model: BTreeMap::new(), report }.go();
     if report.lost != lost_before {
         println!("lost something with ISTROVELL_SEED={}: {:?}", history.seed, report.first_lost);
     }
@@ -703,6 +738,29 @@ const GROUPED: [History; 9] = [
         ..IN_GROUPS
     },
     History { seed: 29, pages: 5, held: 8, examined: 10, fast: true, worn: worn(65_534, 3), ..IN_GROUPS },
+];
+
+/// On the larger chip, where there are groups: pages are filled over their middle, opened and moved, and wear out.
+const ON_LARGER: History = History { edition: Edition::Third, ..PLAIN_RUN };
+const LARGER_CHIP: [History; 8] = [
+    History { seed: 41, examined: 40, ..ON_LARGER },
+    History { seed: 42, held: 12, examined: 16, fast: true, ..ON_LARGER },
+    History { seed: 43, pages: 3, held: 8, examined: 20, ways: 8, fast: true, ..ON_LARGER },
+    History { seed: 44, pages: 8, held: 10, examined: 12, ways: 6, watched: 4, fast: true, ..ON_LARGER },
+    History { seed: 45, pages: 32, held: 5, examined: 20, ways: 3, watched: 3, fast: true, ..ON_LARGER },
+    History { seed: 46, pages: 2, held: 190, examined: 1, ways: 3, fast: true, only_moves: true, ..ON_LARGER },
+    History {
+        seed: 51,
+        pages: 32,
+        held: 10,
+        examined: 1,
+        ways: 3,
+        watched: 3,
+        fast: true,
+        only_moves: true,
+        ..ON_LARGER
+    },
+    History { seed: 48, pages: 5, held: 8, examined: 6, fast: true, worn: worn(65_534, 3), ..ON_LARGER },
 ];
 
 /// What it takes to catch a store that is wrong in groups.
@@ -771,22 +829,22 @@ fn run_alone(
     examine: impl FnOnce(&mut Run) -> Outcome<()>,
 ) -> Report {
     let mut report = Report::default();
-    let rng = Rng::new(history.seed);
-    let mut run = Run { store, plan: &Second, history, rng, pool, model: BTreeMap::new(), report: &mut report };
+    let (chip, rng) = (history.chip(), Rng::new(history.seed));
+    let mut run = Run { store, plan: &Second, history, chip, rng, pool, model: BTreeMap::new(), report: &mut report };
     if let Err(lost) = examine(&mut run) {
         report.lose(lost);
     }
     report
 }
 
-fn complete_a_code(last: LastDigit, store: &dyn Store) -> Report {
-    let history = History { pages: last.pages, held: 0, ..PLAIN_RUN };
+fn complete_a_code(last: LastDigit, edition: Edition, store: &dyn Store) -> Report {
+    let history = History { pages: last.pages, held: 0, edition, ..PLAIN_RUN };
     run_alone(store, history, (16..20).collect(), |run| run.complete_a_code(last))
 }
 
 /// Beside the digits one other address is held, so that a page can be filled where no digit is.
-fn write_a_code(code: Code, store: &dyn Store) -> Report {
-    let history = History { pages: code.pages, held: 1 + code.held, edition: Edition::Second, ..PLAIN_RUN };
+fn write_a_code(code: Code, edition: Edition, store: &dyn Store) -> Report {
+    let history = History { pages: code.pages, held: 1 + code.held, edition, ..PLAIN_RUN };
     run_alone(store, history, vec![300, 16, 17, 18, 19], |run| run.write_a_code(code))
 }
 
@@ -794,7 +852,7 @@ fn write_a_code(code: Code, store: &dyn Store) -> Report {
 fn power_cuts_lose_nothing() {
     let mut report = Report::default();
     let guarded = [Place::AfterStartGuard, Place::BeforeEndGuard].map(|place| Guarded::new(SUBJECT, place));
-    let all = HISTORIES.into_iter().chain(WORN).chain(GROUPED);
+    let all = HISTORIES.into_iter().chain(WORN).chain(GROUPED).chain(LARGER_CHIP);
     let asked: Vec<History> = all.clone().filter(|history| asked_for(history.seed)).collect();
     for &history in &asked {
         let begin = Instant::now();
@@ -802,39 +860,45 @@ fn power_cuts_lose_nothing() {
         run(history, &guarded[(history.seed % 2) as usize], &Second, &mut report);
         let failed = report.failed_writes() - before;
         let seconds = begin.elapsed().as_secs_f64();
-        println!("history {}: {} pages, {failed} failed writes, {seconds:.1} s", history.seed, history.pages);
+        let size = history.chip().page_size();
+        println!("history {}: {} pages of {size}, {failed} failed writes, {seconds:.1} s", history.seed, history.pages);
     }
     report.print();
     assert_eq!(report.first_lost, None);
     if asked.len() == all.count() {
-        assert!(report.failed_writes() >= 20_000 && report.failed_groups >= 10_000);
-        for counts in [&report.writes, &report.group_writes] {
-            assert!([2, 3, 8, 32].iter().all(|&pages| counts.contains_key(&(Way::Appends, pages))));
-            assert!([3, 8, 32].iter().all(|&pages| counts.contains_key(&(Way::OpensAPage, pages))));
-            assert!([2, 3, 32].iter().all(|&pages| counts.contains_key(&(Way::Moves, pages))));
+        assert!(report.failed_writes() >= 20_000 && report.failed_groups >= 10_000 && report.failed_on_larger >= 5_000);
+        for (size, counts) in [(1_024, &report.writes), (1_024, &report.group_writes), (2_048, &report.group_writes)] {
+            assert!([2, 3, 8, 32].iter().all(|&pages| counts.contains_key(&(size, Way::Appends, pages))));
+            assert!([3, 8, 32].iter().all(|&pages| counts.contains_key(&(size, Way::OpensAPage, pages))));
+            assert!([2, 3, 32].iter().all(|&pages| counts.contains_key(&(size, Way::Moves, pages))));
         }
+        assert!([2, 3].iter().all(|&pages| report.writes.contains_key(&(2_048, Way::Appends, pages))));
         assert!(report.recoveries.contains_key("with a failing abandon mark"));
-        assert!(report.went_on_dead > 0 && report.codes > 0);
+        assert!(report.went_on_dead > 0 && report.codes > 0 && report.over_the_middle > 0);
     }
 }
 
 /// Both are left by failures in each such write.
 #[test]
 fn a_code_is_completed_or_not() {
-    for last in last_digits() {
-        let report = complete_a_code(last, &SUBJECT);
-        assert_eq!(report.first_lost, None, "{last:?}");
-        assert!(report.left_old > 0 && report.left_new > 0 && report.codes > 0, "{last:?}");
+    for edition in [Edition::First, Edition::Third] {
+        for last in last_digits() {
+            let report = complete_a_code(last, edition, &SUBJECT);
+            assert_eq!(report.first_lost, None, "{last:?}");
+            assert!(report.left_old > 0 && report.left_new > 0 && report.codes > 0, "{last:?}");
+        }
     }
 }
 
 /// The lookup gives the old code or the new one, and failures in each such write leave both.
 #[test]
 fn a_code_written_as_a_group_is_old_or_new() {
-    for code in codes() {
-        let report = write_a_code(code, &SUBJECT);
-        assert_eq!(report.first_lost, None, "{code:?}");
-        assert!(report.left_old > 0 && report.left_new > 0 && report.codes > 0, "{code:?}");
+    for edition in [Edition::Second, Edition::Third] {
+        for code in codes() {
+            let report = write_a_code(code, edition, &SUBJECT);
+            assert_eq!(report.first_lost, None, "{code:?}");
+            assert!(report.left_old > 0 && report.left_new > 0 && report.codes > 0, "{code:?}");
+        }
     }
 }
 
@@ -884,7 +948,9 @@ fn wrong_wears_are_caught() {
 fn wrong_pairings_are_caught() {
     for wrong in WRONG_PAIRINGS {
         let clause = if wrong == WrongPairing::BlankIsHeld { Clause::Steps } else { Clause::Blank };
-        let caught = last_digits().into_iter().find(|&last| complete_a_code(last, &wrong).lost.contains_key(&clause));
+        let caught = last_digits()
+            .into_iter()
+            .find(|&last| complete_a_code(last, Edition::First, &wrong).lost.contains_key(&clause));
         assert!(caught.is_some(), "{wrong:?} was not caught by {clause:?}");
     }
 }
@@ -921,4 +987,26 @@ fn wrong_groups_are_caught() {
         let by_the_same = clauses.iter().any(|clause| other.contains_key(clause));
         assert!(by_the_same || other.contains_key(&Clause::Steps), "{wrong:?}: {other:?}");
     }
+}
+
+/// With their own plan, and by whatever clause: a store that puts records where it doesn't look for them loses them. Most
+/// others lose nothing by themselves, and only the comparison and the rules show them.
+#[test]
+fn wrong_chips_are_caught() {
+    let caught =
+        [WrongChip::LastNotSearched, WrongChip::BackNotSearched, WrongChip::GroupEndsAt252, WrongChip::NoMarks];
+    let history = History { seed: 49, pages: 3, held: 4, examined: 100, ways: 4, watched: 6, fast: true, ..ON_LARGER };
+    for wrong in caught {
+        let plans: [&dyn Plan; 2] = [&wrong, &Second];
+        let [own, other] = plans.map(|plan| {
+            let mut report = Report::default();
+            run(history, &Stepwise(wrong), plan, &mut report);
+            report.lost
+        });
+        println!("{wrong:?}: {own:?}, by the other plan {other:?}");
+        assert!(!own.is_empty() && !other.is_empty(), "{wrong:?} was not caught");
+    }
+    let mut report = Report::default();
+    run(history, &Stepwise(WrongChip::Nothing), &WrongChip::Nothing, &mut report);
+    assert_eq!(report.first_lost, None);
 }

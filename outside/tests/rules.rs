@@ -1,12 +1,14 @@
-//! Single rules of document 01 beyond its examples, and of wishes 1, 2, 4 and 6 of document 02, on every store at hand.
+//! Single rules of document 01 beyond its examples, and of wishes 1, 2, 4, 6 and 12 of document 02, on every store at hand
+//! and in every form of the pages that has them.
 //!
 //! Broken stores that these catch: one that takes a receiving page for current, one whose check counts the low half of each
-//! byte twice, those of which only the wear is wrong, those that are wrong in groups or editions alone, and those that are
-//! wrong in wish 6 alone, see the last test.
+//! byte twice, those of which only the wear is wrong, those that are wrong in groups or editions alone, in the larger chip
+//! or in page sizes alone, and in wish 6 alone, see the last test.
 
 use std::panic::{catch_unwind, AssertUnwindSafe};
 
-use outside::broken::{Broken, WrongGroup, WRONG_GROUPS, WRONG_PAIRINGS, WRONG_WEARS};
+use outside::broken::{Broken, WrongChip, WrongGroup, WRONG_CHIPS, WRONG_GROUPS, WRONG_PAIRINGS, WRONG_WEARS};
+use outside::images::WRONG_SIZES;
 use outside::page::*;
 use outside::rules::*;
 use outside::word::*;
@@ -19,39 +21,97 @@ fn on_every_store(rule: impl Fn(&dyn Store)) {
     rule(&library::Library);
 }
 
-/// A page with these header words and these words in its first slots, all else 255.
-fn page_of(wear: Word, opening: Word, done: Word, slots: &[Word]) -> Vec<u8> {
-    let mut page = [wear, opening, done].concat();
-    page.extend(slots.concat());
-    page.resize(PAGE_BYTES, 255);
-    page
+/// In each of these forms.
+fn in_forms(forms: &[Form], rule: impl Fn(&dyn Store, Form)) {
+    forms.iter().for_each(|&form| on_every_store(|store| rule(store, form)));
 }
 
-fn first_edition(wear: u16) -> Word {
-    wear_word(wear, Edition::First)
+/// The form of a page: its size and its edition, which says which chip it is.
+#[derive(Clone, Copy, Debug, PartialEq)]
+struct Form(Edition);
+
+const FIRST: Form = Form(Edition::First);
+const SECOND: Form = Form(Edition::Second);
+const THIRD: Form = Form(Edition::Third);
+const FORMS: [Form; 3] = [FIRST, SECOND, THIRD];
+const WITH_GROUPS: [Form; 2] = [SECOND, THIRD];
+
+impl Form {
+    fn chip(self) -> Chip {
+        Chip::of(self.0)
+    }
+
+    /// The page size that calls name.
+    fn size(self) -> u16 {
+        self.chip().page_size()
+    }
+
+    fn slots(self) -> usize {
+        self.chip().slots()
+    }
+
+    fn wear(self, wear: u16) -> Word {
+        wear_word(wear, self.0)
+    }
+
+    /// A page with these header words and these words in its first slots, all else 255.
+    fn page_of(self, wear: Word, opening: Word, done: Word, slots: &[Word]) -> Vec<u8> {
+        let mut page = [wear, opening, done].concat();
+        page.extend(slots.concat());
+        page.resize(self.chip().page_bytes, 255);
+        page
+    }
+
+    fn filled_with(self, byte: u8) -> Vec<u8> {
+        vec![byte; self.chip().page_bytes]
+    }
+
+    fn cleared(self, wear: u16) -> Vec<u8> {
+        self.page_of(self.wear(wear), BLANK, BLANK, &[])
+    }
+
+    fn plain(self, order: u32, slots: &[Word]) -> Vec<u8> {
+        self.page_of(self.wear(1), order_word(order, PLAIN), BLANK, slots)
+    }
+
+    fn moved(self, order: u32, slots: &[Word]) -> Vec<u8> {
+        self.page_of(self.wear(1), order_word(order, RECEIVING), done_word(order), slots)
+    }
+
+    fn receiving(self, order: u32, slots: &[Word]) -> Vec<u8> {
+        self.page_of(self.wear(1), order_word(order, RECEIVING), BLANK, slots)
+    }
+
+    /// A page that is neither used nor cleared, with this wear word.
+    fn unclean(self, wear: Word) -> Vec<u8> {
+        self.page_of(wear, order_word(0, 0), BLANK, &[])
+    }
+
+    fn reads(self, store: &dyn Store, pages: &[Vec<u8>], address: u16) -> (u8, u8) {
+        let answer = store.read(&pages.concat(), self.size(), address);
+        (answer.number, answer.value)
+    }
+
+    fn page_at(self, image: &[u8], page: usize) -> &[u8] {
+        page_at(image, self.chip(), page)
+    }
+
+    /// A write of all its steps, and a recovery.
+    fn write(self, store: &dyn Store, image: &mut [u8], address: u16, value: u8) -> Stepped {
+        store.write(image, self.size(), address, value, u16::MAX)
+    }
+
+    fn recover(self, store: &dyn Store, image: &mut [u8]) -> Stepped {
+        store.recover(image, self.size(), u16::MAX)
+    }
+
+    fn write_group(self, store: &dyn Store, image: &mut [u8], settings: &[Setting]) -> Stepped {
+        store.write_group(image, self.size(), &group_bytes(settings), u16::MAX)
+    }
 }
 
-fn cleared(wear: u16) -> Vec<u8> {
-    page_of(first_edition(wear), BLANK, BLANK, &[])
-}
-
-fn plain(order: u32, slots: &[Word]) -> Vec<u8> {
-    page_of(first_edition(1), order_word(order, PLAIN), BLANK, slots)
-}
-
-fn moved(order: u32, slots: &[Word]) -> Vec<u8> {
-    page_of(first_edition(1), order_word(order, RECEIVING), done_word(order), slots)
-}
-
-/// The same page in the second edition.
-fn second(page: Vec<u8>) -> Vec<u8> {
-    let wear = wear(&page, Edition::First).expect("the page is of the first edition");
-    [wear_word(wear, Edition::Second).as_slice(), &page[OPENING_OFFSET..]].concat()
-}
-
-fn reads(store: &dyn Store, pages: &[Vec<u8>], address: u16) -> (u8, u8) {
-    let answer = store.read(&pages.concat(), address);
-    (answer.number, answer.value)
+fn done(steps: u16) -> Stepped {
+    Stepped { number: OK, finished: true, steps }
 }
 
 /// The 0 bits of each half of a byte, as README.md prints them for the bench.
@@ -61,7 +121,7 @@ fn printed_counts() -> Vec<u8> {
 }
 
 /// A check by hand is the sum of the six counts. Each byte stands once in each of the three places of a record.
-fn checks_by_hand(store: &dyn Store) {
+fn checks_by_hand(store: &dyn Store, form: Form) {
     let counts = printed_counts();
     assert_eq!(counts.len(), 16);
     for (place, byte) in (0..3).flat_map(|place| (0..=255).map(move |byte| (place, byte))) {
@@ -70,180 +130,198 @@ fn checks_by_hand(store: &dyn Store) {
         let halves = bytes.iter().flat_map(|byte| [byte / 16, byte % 16]);
         let check: u8 = halves.map(|half| counts[usize::from(half)]).sum();
         let (address, value) = (u16::from_le_bytes([bytes[0], bytes[1]]), bytes[2]);
-        let with = |check| [plain(0, &[[bytes[0], bytes[1], bytes[2], check]]), cleared(1)];
-        assert_eq!(reads(store, &with(check), address), (OK, value), "{bytes:?} with check {check}");
+        let with = |check| [form.plain(0, &[[bytes[0], bytes[1], bytes[2], check]]), form.cleared(1)];
+        assert_eq!(form.reads(store, &with(check), address), (OK, value), "{bytes:?} with check {check}");
         for wrong in [check.wrapping_sub(1), check + 1] {
-            assert_eq!(reads(store, &with(wrong), address), (NOT_HELD, 0), "{bytes:?} with check {wrong}");
+            assert_eq!(form.reads(store, &with(wrong), address), (NOT_HELD, 0), "{bytes:?} with check {wrong}");
         }
-        let mut image = [plain(0, &[]), cleared(1)].concat();
-        assert_eq!(store.write(&mut image, address, value, 2).steps, 2);
+        let mut image = [form.plain(0, &[]), form.cleared(1)].concat();
+        assert_eq!(form.write(store, &mut image, address, value), done(2));
         assert!(image == with(check).concat(), "{bytes:?} written");
     }
 }
 
 #[test]
 fn a_check_by_hand_is_that_of_every_store() {
-    on_every_store(checks_by_hand);
+    in_forms(&[FIRST, THIRD], checks_by_hand);
 }
 
 #[test]
 fn page_states() {
-    let state = |page: Vec<u8>| state(&page, Edition::First);
-    let wear = first_edition(9);
-    let opening = order_word(6, RECEIVING);
-    assert_eq!(state(cleared(9)), State::Cleared { wear: 9 });
-    assert_eq!(state(page_of(wear, BLANK, BLANK, &[BLANK, [255, 255, 255, 254]])), State::Bad);
-    assert_eq!(state(page_of(BLANK, BLANK, BLANK, &[])), State::Bad);
-    assert_eq!(state(page_of([9, 0, 255, 255], order_word(6, PLAIN), BLANK, &[])), State::Bad);
-    assert_eq!(state(page_of(sound_word([9, 0, 2]), BLANK, BLANK, &[])), State::Bad);
-    assert_eq!(state(page_of(sound_word([9, 0, 0]), order_word(6, PLAIN), BLANK, &[])), State::Bad);
-    for half_written_or_spoiled in [[25, 0, 255, 255], [25, 0, 0, 255]] {
-        assert_eq!(state(page_of(wear, half_written_or_spoiled, BLANK, &[])), State::Bad);
+    for form in FORMS {
+        let state = |page: Vec<u8>| state(&page, form.0);
+        let page_of = |wear, opening, done, slots: &[Word]| form.page_of(wear, opening, done, slots);
+        let wear = form.wear(9);
+        let opening = order_word(6, RECEIVING);
+        assert_eq!(state(form.cleared(9)), State::Cleared { wear: 9 });
+        assert_eq!(state(page_of(wear, BLANK, BLANK, &[BLANK, [255, 255, 255, 254]])), State::Bad);
+        for at in [4, 1_023, form.chip().page_bytes - 1] {
+            let mut page = form.cleared(9);
+            page[at] = 254;
+            assert_eq!(state(page), State::Bad, "byte {at} in {form:?}");
+        }
+        assert_eq!(state(page_of(BLANK, BLANK, BLANK, &[])), State::Bad);
+        assert_eq!(state(page_of([9, 0, 255, 255], order_word(6, PLAIN), BLANK, &[])), State::Bad);
+        for third_byte in [0, 1, 2, 3, 4, 255].into_iter().filter(|&third_byte| third_byte != form.0 as u8) {
+            assert_eq!(state(page_of(sound_word([9, 0, third_byte]), BLANK, BLANK, &[])), State::Bad);
+            assert_eq!(state(page_of(sound_word([9, 0, third_byte]), order_word(6, PLAIN), BLANK, &[])), State::Bad);
+        }
+        for half_written_or_spoiled in [[25, 0, 255, 255], [25, 0, 0, 255]] {
+            assert_eq!(state(page_of(wear, half_written_or_spoiled, BLANK, &[])), State::Bad);
+        }
+        for done in [BLANK, [0; 4], [27, 0, 255, 255], done_word(6), done_word(7)] {
+            assert_eq!(state(page_of(wear, order_word(6, PLAIN), done, &[])), State::Open { order: 6, kind: PLAIN });
+        }
+        assert_eq!(state(page_of(wear, opening, done_word(6), &[])), State::Open { order: 6, kind: RECEIVING });
+        for done in [BLANK, done_word(7), opening, order_word(6, 0), [27, 0, 255, 255], [27, 0, 0, 255]] {
+            assert_eq!(state(page_of(wear, opening, done, &[])), State::Receiving);
+        }
+        assert_eq!(state(page_of(wear, order_word(6, 0), BLANK, &[])), State::Bad);
+        assert_eq!(state(page_of(wear, order_word(6, DONE), done_word(6), &[])), State::Bad);
     }
-    for done in [BLANK, [0; 4], [27, 0, 255, 255], done_word(6), done_word(7)] {
-        assert_eq!(state(page_of(wear, order_word(6, PLAIN), done, &[])), State::Open { order: 6, kind: PLAIN });
-    }
-    assert_eq!(state(page_of(wear, opening, done_word(6), &[])), State::Open { order: 6, kind: RECEIVING });
-    for done in [BLANK, done_word(7), order_word(6, RECEIVING), order_word(6, 0), [27, 0, 255, 255], [27, 0, 0, 255]] {
-        assert_eq!(state(page_of(wear, opening, done, &[])), State::Receiving);
-    }
-    assert_eq!(state(page_of(wear, order_word(6, 0), BLANK, &[])), State::Bad);
-    assert_eq!(state(page_of(wear, order_word(6, DONE), done_word(6), &[])), State::Bad);
-}
-
-/// A page that is neither used nor cleared, with this wear word.
-fn unclean(wear: Word) -> Vec<u8> {
-    page_of(wear, order_word(0, 0), BLANK, &[])
 }
 
 /// Recovery makes these pages, behind an open one, cleared pages of these wears.
-fn recovery_gives<const N: usize>(store: &dyn Store, open: u16, pages: [Vec<u8>; N], wears: [u16; N]) {
-    let open = page_of(first_edition(open), order_word(0, PLAIN), BLANK, &[]);
-    let is_cleared = |page: &&Vec<u8>| matches!(state(page, Edition::First), State::Cleared { .. });
+fn recovery_gives<const N: usize>(store: &dyn Store, form: Form, open: u16, pages: [Vec<u8>; N], wears: [u16; N]) {
+    let open = form.page_of(form.wear(open), order_word(0, PLAIN), BLANK, &[]);
+    let is_cleared = |page: &&Vec<u8>| matches!(state(page, form.0), State::Cleared { .. });
     let renewed = (N - pages.iter().filter(is_cleared).count()) as u16;
     let mut image = [vec![open.clone()], pages.to_vec()].concat().concat();
-    let after = [vec![open], wears.map(cleared).to_vec()].concat().concat();
-    assert_eq!(store.recover(&mut image, u16::MAX), Stepped { number: OK, finished: true, steps: 3 * renewed });
+    let after = [vec![open], wears.map(|wear| form.cleared(wear)).to_vec()].concat().concat();
+    assert_eq!(form.recover(store, &mut image), done(3 * renewed));
     assert!(image == after, "{wears:?}");
-    assert_eq!(store.recover(&mut image, 0), Stepped { number: OK, finished: true, steps: 0 });
+    assert_eq!(store.recover(&mut image, form.size(), 0), done(0));
 }
 
 #[test]
 fn a_page_that_has_a_wear_gets_one_more() {
-    on_every_store(|store| {
-        let pages = [0, 9, 65_534, 65_535].map(|wear| unclean(first_edition(wear)));
-        recovery_gives(store, 1, pages, [1, 10, 65_535, 65_535]);
+    in_forms(&FORMS, |store, form| {
+        let pages = [0, 9, 65_534, 65_535].map(|wear| form.unclean(form.wear(wear)));
+        recovery_gives(store, form, 1, pages, [1, 10, 65_535, 65_535]);
     });
 }
 
 /// Wish 1: one more than the greatest sound wear word in the image just before its erase, at most 65,535.
-fn lost_wears(store: &dyn Store) {
-    let receiving = || page_of(first_edition(9), order_word(1, RECEIVING), BLANK, &[]);
-    let blank = || unclean(BLANK);
+fn lost_wears(store: &dyn Store, form: Form) {
+    let receiving = || form.page_of(form.wear(9), order_word(1, RECEIVING), BLANK, &[]);
+    let blank = || form.unclean(BLANK);
     // The example.
-    recovery_gives(store, 7, [receiving(), blank(), blank()], [10, 11, 12]);
+    recovery_gives(store, form, 7, [receiving(), blank(), blank()], [10, 11, 12]);
     // A half-written wear word, a spoiled one and one of another edition are none.
-    let without = [[9, 0, 255, 255], [1, 0, 1, 23], sound_word([9, 0, 2])].map(unclean);
-    recovery_gives(store, 7, without, [8, 9, 10]);
+    let another = if form == SECOND { 1 } else { 2 };
+    let without = [[9, 0, 255, 255], [1, 0, form.0 as u8, 25], sound_word([9, 0, another])];
+    recovery_gives(store, form, 7, without.map(|wear| form.unclean(wear)), [8, 9, 10]);
     // The wear of a page counts in whatever state it is, also before the page's turn.
-    recovery_gives(store, 7, [blank(), cleared(20)], [21, 20]);
-    recovery_gives(store, 7, [blank(), receiving(), blank()], [10, 10, 11]);
-    recovery_gives(store, 0, [blank(), blank()], [1, 2]);
+    recovery_gives(store, form, 7, [blank(), form.cleared(20)], [21, 20]);
+    recovery_gives(store, form, 7, [blank(), receiving(), blank()], [10, 10, 11]);
+    recovery_gives(store, form, 0, [blank(), blank()], [1, 2]);
     // The last wear.
-    recovery_gives(store, 65_533, [blank(), blank(), blank()], [65_534, 65_535, 65_535]);
-    recovery_gives(store, 65_535, [blank(), unclean(first_edition(3)), blank()], [65_535, 4, 65_535]);
+    recovery_gives(store, form, 65_533, [blank(), blank(), blank()], [65_534, 65_535, 65_535]);
+    recovery_gives(store, form, 65_535, [blank(), form.unclean(form.wear(3)), blank()], [65_535, 4, 65_535]);
 }
 
 #[test]
 fn a_page_without_a_wear_gets_one_more_than_the_greatest() {
-    on_every_store(lost_wears);
+    in_forms(&FORMS, lost_wears);
 }
 
 #[test]
 fn a_new_page_is_the_least_worn_and_lowest() {
-    on_every_store(|store| {
-        let full = plain(0, &[record(5, 1); SLOTS]);
+    in_forms(&FORMS, |store, form| {
+        let full = form.plain(0, &vec![record(5, 1); form.slots()]);
+        let cleared = |wear| form.cleared(wear);
         let mut image = [cleared(4), cleared(3), full, cleared(3), cleared(65_535)].concat();
-        assert_eq!(store.write(&mut image, 5, 2, 9).steps, 4);
-        assert_eq!(page_at(&image, 1), page_of(first_edition(3), order_word(1, PLAIN), BLANK, &[record(5, 2)]));
+        assert_eq!(form.write(store, &mut image, 5, 2), done(4));
+        let opened = form.page_of(form.wear(3), order_word(1, PLAIN), BLANK, &[record(5, 2)]);
+        assert_eq!(form.page_at(&image, 1), opened);
     });
 }
 
 #[test]
 fn only_used_pages_answer() {
-    on_every_store(|store| {
-        let old = plain(3, &[record(5, 1)]);
-        let receiving = page_of(first_edition(1), order_word(9, RECEIVING), BLANK, &[record(5, 7), record(6, 7)]);
+    in_forms(&FORMS, |store, form| {
+        let reads = |pages: &[Vec<u8>], address| form.reads(store, pages, address);
+        let old = form.plain(3, &[record(5, 1)]);
+        let receiving = form.receiving(9, &[record(5, 7), record(6, 7)]);
+        let cleared = form.cleared(1);
         // A lower order than the base doesn't count, the base order itself and greater ones do.
-        assert_eq!(reads(store, &[old.clone(), moved(4, &[]), cleared(1)], 5), (NOT_HELD, 0));
-        assert_eq!(reads(store, &[plain(5, &[record(5, 2)]), moved(4, &[record(5, 3)]), cleared(1)], 5), (OK, 2));
-        assert_eq!(reads(store, &[old.clone(), receiving.clone(), cleared(1)], 5), (OK, 1));
-        assert_eq!(reads(store, &[old.clone(), receiving, cleared(1)], 6), (NOT_HELD, 0));
-        assert_eq!(reads(store, &[old.clone(), plain(2, &[record(5, 8), record(6, 8)]), cleared(1)], 6), (OK, 8));
-        assert_eq!(reads(store, &[old.clone(), old, cleared(1)], 5), (DAMAGED, 0));
+        assert_eq!(reads(&[old.clone(), form.moved(4, &[]), cleared.clone()], 5), (NOT_HELD, 0));
+        let moved = form.moved(4, &[record(5, 3)]);
+        assert_eq!(reads(&[form.plain(5, &[record(5, 2)]), moved, cleared.clone()], 5), (OK, 2));
+        assert_eq!(reads(&[old.clone(), receiving.clone(), cleared.clone()], 5), (OK, 1));
+        assert_eq!(reads(&[old.clone(), receiving, cleared.clone()], 6), (NOT_HELD, 0));
+        let older = form.plain(2, &[record(5, 8), record(6, 8)]);
+        assert_eq!(reads(&[old.clone(), older, cleared.clone()], 6), (OK, 8));
+        assert_eq!(reads(&[old.clone(), old, cleared], 5), (DAMAGED, 0));
     });
 }
 
 #[test]
 fn tests_go_in_order() {
-    on_every_store(|store| {
-        let number = |pages: &[Vec<u8>], address, value| store.write(&mut pages.concat(), address, value, 9).number;
-        let full_of_192: Vec<Word> = (0..SLOTS as u16).map(|slot| record(slot.min(191), 1)).collect();
-        let full_of_193: Vec<Word> = (0..SLOTS as u16).map(|slot| record(slot.min(192), 1)).collect();
-        let bad = vec![0; PAGE_BYTES];
-        assert_eq!(number(&[cleared(1), bad.clone()], NO_ADDRESS, 1), NO_STORE);
+    in_forms(&FORMS, |store, form| {
+        let number =
+            |pages: &[Vec<u8>], address, value| store.write(&mut pages.concat(), form.size(), address, value, 9).number;
+        let (plain, cleared) = (|order, slots: &[Word]| form.plain(order, slots), form.cleared(1));
+        let full_of =
+            |held: u16| -> Vec<Word> { (0..form.slots() as u16).map(|slot| record(slot.min(held - 1), 1)).collect() };
+        let (full_of_192, full_of_193) = (full_of(192), full_of(193));
+        let but_the_last = &full_of_192[..form.slots() - 1];
+        let bad = form.filled_with(0);
+        assert_eq!(number(&[cleared.clone(), bad.clone()], NO_ADDRESS, 1), NO_STORE);
         assert_eq!(number(&[plain(0, &full_of_193), bad.clone()], NO_ADDRESS, 1), DAMAGED);
         assert_eq!(number(&[plain(0, &[]), bad.clone()], NO_ADDRESS, 1), UNCLEAN);
         assert_eq!(number(&[plain(0, &full_of_192), bad], 0, 1), UNCLEAN);
-        assert_eq!(number(&[plain(LAST_ORDER, &full_of_192), cleared(1)], NO_ADDRESS, 1), ADDRESS);
-        assert_eq!(number(&[plain(LAST_ORDER, &full_of_192), cleared(1)], 500, 1), NO_ROOM);
-        assert_eq!(number(&[plain(LAST_ORDER, &full_of_192), cleared(1)], 0, 2), ORDER_END);
-        assert_eq!(number(&[plain(LAST_ORDER, &full_of_192), cleared(1)], 0, 1), OK);
-        assert_eq!(number(&[plain(LAST_ORDER, &full_of_192[..252]), cleared(1)], 0, 2), OK);
-        assert_eq!(number(&[plain(LAST_ORDER - 1, &full_of_192), cleared(1)], 0, 2), OK);
+        assert_eq!(number(&[plain(LAST_ORDER, &full_of_192), cleared.clone()], NO_ADDRESS, 1), ADDRESS);
+        assert_eq!(number(&[plain(LAST_ORDER, &full_of_192), cleared.clone()], 500, 1), NO_ROOM);
+        assert_eq!(number(&[plain(LAST_ORDER, &full_of_192), cleared.clone()], 0, 2), ORDER_END);
+        assert_eq!(number(&[plain(LAST_ORDER, &full_of_192), cleared.clone()], 0, 1), OK);
+        assert_eq!(number(&[plain(LAST_ORDER, but_the_last), cleared.clone()], 0, 2), OK);
+        assert_eq!(number(&[plain(LAST_ORDER - 1, &full_of_192), cleared], 0, 2), OK);
     });
 }
 
 /// A store that holds these digits of a pairing code, and nothing where there is none.
-fn with_code(code: [Option<u8>; 4]) -> Vec<u8> {
+fn with_code(form: Form, code: [Option<u8>; 4]) -> Vec<u8> {
     let digits = (16..).zip(code).filter_map(|(address, digit)| Some(record(address, digit?)));
-    [plain(0, &digits.collect::<Vec<Word>>()), cleared(1)].concat()
+    [form.plain(0, &digits.collect::<Vec<Word>>()), form.cleared(1)].concat()
 }
 
 /// Wish 6: a code is whole if its four addresses are held, whatever their values. Each place is not held, holds 0, holds
 /// 255 and holds a digit of its own, beside each of these in the other places.
-fn codes(store: &dyn Store) {
+fn codes(store: &dyn Store, form: Form) {
     for case in 0..256 {
         let code = [0, 1, 2, 3].map(|place| [None, Some(0), Some(255), Some(6 + place)][case >> (2 * place) & 3]);
         let digits = code.map(|digit| digit.unwrap_or(0));
         let paired = code.iter().all(|digit| digit.is_some());
-        assert_eq!(store.lookup(&with_code(code)), Pairing { number: OK, paired, digits }, "{code:?}");
+        let answer = store.lookup(&with_code(form, code), form.size());
+        assert_eq!(answer, Pairing { number: OK, paired, digits }, "{code:?}");
     }
 }
 
 #[test]
 fn pairing_is_found_only_whole() {
-    on_every_store(codes);
+    in_forms(&FORMS, codes);
 }
 
 /// Wish 6: blank reads as 0, and a read tells an address that holds 0 from one that isn't held. So does a write, which
 /// changes the one and not the other.
-fn blanks(store: &dyn Store) {
-    let mut image = [plain(0, &[record(5, 0), record(6, 255), record(7, 65)]), cleared(1)].concat();
+fn blanks(store: &dyn Store, form: Form) {
+    let size = form.size();
+    let mut image = [form.plain(0, &[record(5, 0), record(6, 255), record(7, 65)]), form.cleared(1)].concat();
     for (address, number, value) in [(5, OK, 0), (6, OK, 255), (7, OK, 65), (8, NOT_HELD, 0), (65_534, NOT_HELD, 0)] {
-        assert_eq!(store.read(&image, address), Reading { number, value }, "read of {address}");
-        assert_eq!(store.blank_read(&image, address), Reading { number: OK, value }, "blank read of {address}");
+        assert_eq!(store.read(&image, size, address), Reading { number, value }, "read of {address}");
+        assert_eq!(store.blank_read(&image, size, address), Reading { number: OK, value }, "blank read of {address}");
     }
     for (address, steps) in [(5, 0), (8, 2), (8, 0)] {
-        assert_eq!(store.write(&mut image, address, 0, u16::MAX), Stepped { number: OK, finished: true, steps });
-        assert_eq!(store.read(&image, address), Reading { number: OK, value: 0 });
-        assert_eq!(store.blank_read(&image, address), Reading { number: OK, value: 0 });
+        assert_eq!(form.write(store, &mut image, address, 0), done(steps));
+        assert_eq!(store.read(&image, size, address), Reading { number: OK, value: 0 });
+        assert_eq!(store.blank_read(&image, size, address), Reading { number: OK, value: 0 });
     }
 }
 
 #[test]
 fn blank_reads_as_0() {
-    on_every_store(blanks);
+    in_forms(&FORMS, blanks);
 }
 
 /// Each image has a whole code in a page, so that a digit or a value that is found in spite of the refusal shows.
@@ -251,27 +329,26 @@ fn blank_reads_as_0() {
 fn a_refusal_answers_nothing_else() {
     let code: Vec<Word> = (16..20).map(|address| record(address, 9)).collect();
     let too_many: Vec<Word> = (0..193).map(|address| record(address, 9)).collect();
-    let too_long = [plain(0, &code), cleared(1), vec![255]].concat();
-    let receiving = page_of(first_edition(1), order_word(0, RECEIVING), BLANK, &code);
-    on_every_store(|store| {
+    in_forms(&FORMS, |store, form| {
+        let (size, with_code, cleared) = (form.size(), form.plain(0, &code), form.cleared(1));
         for (number, image) in [
-            (SIZE, too_long.clone()),
-            (SIZE, plain(0, &code)),
-            (NO_STORE, [receiving.clone(), cleared(1)].concat()),
-            (DAMAGED, [plain(0, &code), plain(0, &code), cleared(1)].concat()),
-            (DAMAGED, [plain(0, &code), plain(1, &[])].concat()),
-            (DAMAGED, [plain(0, &too_many), cleared(1)].concat()),
+            (SIZE, [with_code.clone(), cleared.clone(), vec![255]].concat()),
+            (SIZE, with_code.clone()),
+            (NO_STORE, [form.receiving(0, &code), cleared.clone()].concat()),
+            (DAMAGED, [with_code.clone(), with_code.clone(), cleared.clone()].concat()),
+            (DAMAGED, [with_code.clone(), form.plain(1, &[])].concat()),
+            (DAMAGED, [form.plain(0, &too_many), cleared.clone()].concat()),
         ] {
             for address in [16, 300, NO_ADDRESS] {
-                assert_eq!(store.read(&image, address), Reading { number, value: 0 });
-                assert_eq!(store.blank_read(&image, address), Reading { number, value: 0 });
+                assert_eq!(store.read(&image, size, address), Reading { number, value: 0 });
+                assert_eq!(store.blank_read(&image, size, address), Reading { number, value: 0 });
             }
-            assert_eq!(store.lookup(&image), Pairing { number, paired: false, digits: [0; 4] });
+            assert_eq!(store.lookup(&image, size), Pairing { number, paired: false, digits: [0; 4] });
         }
-        let good = [plain(0, &code), cleared(1)].concat();
-        assert_eq!(store.read(&good, NO_ADDRESS), Reading { number: ADDRESS, value: 0 });
-        assert_eq!(store.blank_read(&good, NO_ADDRESS), Reading { number: ADDRESS, value: 0 });
-        assert_eq!(store.lookup(&good), Pairing { number: OK, paired: true, digits: [9; 4] });
+        let good = [with_code, cleared].concat();
+        assert_eq!(store.read(&good, size, NO_ADDRESS), Reading { number: ADDRESS, value: 0 });
+        assert_eq!(store.blank_read(&good, size, NO_ADDRESS), Reading { number: ADDRESS, value: 0 });
+        assert_eq!(store.lookup(&good, size), Pairing { number: OK, paired: true, digits: [9; 4] });
     });
 }
 
@@ -356,10 +433,10 @@ fn slots_with_groups() -> Vec<(Vec<Word>, &'static [u16], bool)> {
 }
 
 /// Which of the two addresses are held.
-fn found(store: &dyn Store, image: &[u8]) -> Vec<u16> {
+fn found(store: &dyn Store, form: Form, image: &[u8]) -> Vec<u16> {
     let mut found = Vec::new();
     for (address, value) in [(5, 0x41), (6, 0x42)] {
-        match store.read(image, address) {
+        match store.read(image, form.size(), address) {
             Reading { number: OK, value: read } if read == value => found.push(address),
             answer => assert_eq!(answer, Reading::refused(NOT_HELD)),
         }
@@ -367,132 +444,134 @@ fn found(store: &dyn Store, image: &[u8]) -> Vec<u16> {
     found
 }
 
-/// What counts in the active page, and that only an open group with a free slot waits for recovery.
-fn counting(store: &dyn Store) {
-    for (slots, counted, open) in slots_with_groups() {
-        let mut image = [second(plain(0, &slots)), second(cleared(1)), second(cleared(1))].concat();
-        assert_eq!(found(store, &image), counted, "{slots:?}");
-        let write = store.write(&mut image.clone(), 7, 1, u16::MAX);
+/// What counts in the active page, and that only an open group with a free slot waits for recovery; at the beginning of the
+/// page, and at the place where a page of the smaller chip would end.
+fn counting(store: &dyn Store, form: Form) {
+    let befores = if form == THIRD { vec![0, 251, 253] } else { vec![0] };
+    for ((slots, counted, open), before) in
+        slots_with_groups().into_iter().flat_map(|row| befores.iter().map(move |&before| (row.clone(), before)))
+    {
+        let slots = [vec![SPOILED; before], slots].concat();
+        let mut image = [form.plain(0, &slots), form.cleared(1), form.cleared(1)].concat();
+        assert_eq!(found(store, form, &image), counted, "{slots:?}");
+        let write = form.write(store, &mut image.clone(), 7, 1);
         assert_eq!(write.number, if open { UNCLEAN } else { OK }, "{slots:?}");
-        let steps = if open { 2 } else { 0 };
-        assert_eq!(store.recover(&mut image, u16::MAX), Stepped { number: OK, finished: true, steps }, "{slots:?}");
+        assert_eq!(form.recover(store, &mut image), done(if open { 2 } else { 0 }), "{slots:?}");
         let abandoned = if open { vec![ab()] } else { Vec::new() };
-        assert_eq!(page_at(&image, 0), second(plain(0, &[slots.clone(), abandoned].concat())), "{slots:?}");
-        assert_eq!(found(store, &image), counted, "{slots:?}");
-        let write = store.write(&mut image, 7, 1, u16::MAX);
-        assert_eq!((write.number, store.read(&image, 7)), (OK, Reading { number: OK, value: 1 }), "{slots:?}");
-        // In the first edition each record counts, and there is nothing to wait for.
+        assert_eq!(form.page_at(&image, 0), form.plain(0, &[slots.clone(), abandoned].concat()), "{slots:?}");
+        assert_eq!(found(store, form, &image), counted, "{slots:?}");
+        assert_eq!(form.write(store, &mut image, 7, 1).number, OK, "{slots:?}");
+        assert_eq!(store.read(&image, form.size(), 7), Reading { number: OK, value: 1 }, "{slots:?}");
+    }
+}
+
+/// In the first edition each record counts, and there is nothing to wait for.
+fn counting_all(store: &dyn Store) {
+    for (slots, ..) in slots_with_groups() {
         let both = BOTH.iter().copied().filter(|&address| slots.contains(if address == 5 { &A } else { &B }));
-        let mut image = [plain(0, &slots), cleared(1)].concat();
-        assert_eq!(found(store, &image), both.collect::<Vec<u16>>(), "{slots:?} in edition 1");
-        assert_eq!(store.write(&mut image, 7, 1, u16::MAX).number, OK, "{slots:?} in edition 1");
+        let mut image = [FIRST.plain(0, &slots), FIRST.cleared(1)].concat();
+        assert_eq!(found(store, FIRST, &image), both.collect::<Vec<u16>>(), "{slots:?} in edition 1");
+        assert_eq!(FIRST.write(store, &mut image, 7, 1).number, OK, "{slots:?} in edition 1");
     }
 }
 
 #[test]
 fn the_records_of_a_whole_group_count() {
-    on_every_store(counting);
+    in_forms(&WITH_GROUPS, counting);
+    on_every_store(counting_all);
 }
 
 /// The slots at the end of a full page: an open group there is dead, and so is one in an older page.
-fn dead_groups(store: &dyn Store) {
+fn dead_groups(store: &dyn Store, form: Form) {
+    let cleared = form.cleared(1);
     for (slots, counted, open) in slots_with_groups().into_iter().filter(|(slots, ..)| slots.last() != Some(&BLANK)) {
-        let full = [vec![SPOILED; SLOTS - slots.len()], slots.clone()].concat();
-        let mut image = [second(plain(3, &full)), second(cleared(1)), second(cleared(1))].concat();
-        assert_eq!(found(store, &image), counted, "{slots:?}, open {open}");
-        assert_eq!(store.recover(&mut image, 0), Stepped { number: OK, finished: true, steps: 0 }, "{slots:?}");
-        assert_eq!(store.write(&mut image, 7, 1, u16::MAX), Stepped { number: OK, finished: true, steps: 4 });
-        assert_eq!(page_at(&image, 1), second(plain(4, &[record(7, 1)])), "{slots:?}");
-        assert_eq!(found(store, &image), counted, "{slots:?}");
-        assert_eq!(store.read(&image, 7), Reading { number: OK, value: 1 }, "a group goes on: {slots:?}");
-        assert_eq!(store.write(&mut image, 7, 2, u16::MAX), Stepped { number: OK, finished: true, steps: 2 });
-        let pages = [second(plain(3, &[o(1), A])), second(plain(4, &[c(1)])), second(cleared(1))];
-        assert_eq!(found(store, &pages.concat()), NONE, "a group is closed in another page");
+        let full = [vec![SPOILED; form.slots() - slots.len()], slots.clone()].concat();
+        let mut image = [form.plain(3, &full), cleared.clone(), cleared.clone()].concat();
+        assert_eq!(found(store, form, &image), counted, "{slots:?}, open {open}");
+        assert_eq!(store.recover(&mut image, form.size(), 0), done(0), "{slots:?}");
+        assert_eq!(form.write(store, &mut image, 7, 1), done(4));
+        assert_eq!(form.page_at(&image, 1), form.plain(4, &[record(7, 1)]), "{slots:?}");
+        assert_eq!(found(store, form, &image), counted, "{slots:?}");
+        let goes_on = store.read(&image, form.size(), 7);
+        assert_eq!(goes_on, Reading { number: OK, value: 1 }, "a group goes on: {slots:?}");
+        assert_eq!(form.write(store, &mut image, 7, 2), done(2));
+        let pages = [form.plain(3, &[o(1), A]), form.plain(4, &[c(1)]), cleared.clone()];
+        assert_eq!(found(store, form, &pages.concat()), NONE, "a group is closed in another page");
     }
 }
 
 #[test]
 fn a_group_stays_in_its_page() {
-    on_every_store(dead_groups);
+    in_forms(&WITH_GROUPS, dead_groups);
 }
 
 /// Records of a group count where they stand, among those outside.
-fn order_in_groups(store: &dyn Store) {
-    let values = |slots: &[Word]| reads(store, &[second(plain(0, slots)), second(cleared(1))], 5);
+fn order_in_groups(store: &dyn Store, form: Form) {
+    let values = |slots: &[Word]| form.reads(store, &[form.plain(0, slots), form.cleared(1)], 5);
     assert_eq!(values(&[record(5, 1), o(1), record(5, 2), c(1)]), (OK, 2));
     assert_eq!(values(&[o(1), record(5, 2), c(1), record(5, 3)]), (OK, 3));
     assert_eq!(values(&[record(5, 1), o(2), record(5, 2), record(5, 3), c(2)]), (OK, 3));
     assert_eq!(values(&[record(5, 1), o(2), record(5, 2), c(2)]), (OK, 1));
     assert_eq!(values(&[record(5, 1), ab()]), (OK, 1));
-    let older = second(plain(0, &[o(1), record(5, 2), c(1)]));
-    assert_eq!(reads(store, &[second(plain(1, &[o(1), record(5, 4), ab()])), older, second(cleared(1))], 5), (OK, 2));
+    let older = form.plain(0, &[o(1), record(5, 2), c(1)]);
+    let newer = form.plain(1, &[o(1), record(5, 4), ab()]);
+    assert_eq!(form.reads(store, &[newer, older, form.cleared(1)], 5), (OK, 2));
 }
 
 #[test]
 fn groups_count_where_they_stand() {
-    on_every_store(order_in_groups);
+    in_forms(&WITH_GROUPS, order_in_groups);
 }
 
-fn group_write(store: &dyn Store, image: &mut [u8], settings: &[Setting]) -> Stepped {
-    store.write_group(image, &group_bytes(settings), u16::MAX)
-}
-
-fn done(steps: u16) -> Stepped {
-    Stepped { number: OK, finished: true, steps }
-}
-
+/// The two editions of the smaller chip.
 fn editions(store: &dyn Store) {
+    let reads = |pages: &[Vec<u8>], address| FIRST.reads(store, pages, address);
     // Format gives the edition that it is told, whatever stood there.
-    for edition in EDITIONS {
-        for before in [plain(3, &[A]), second(plain(3, &[A])), vec![0x5A; PAGE_BYTES]] {
+    for (form, second_edition) in [(FIRST, false), (SECOND, true)] {
+        for before in [FIRST.plain(3, &[A]), SECOND.plain(3, &[A]), FIRST.filled_with(0x5A)] {
             let mut image = [before.clone(), before].concat();
-            assert_eq!(store.format(&mut image, edition), OK);
-            let formatted = [plain(0, &[]), cleared(1)];
-            let formatted = if edition == Edition::Second { formatted.map(second) } else { formatted };
-            assert!(image == formatted.concat(), "{edition:?}");
+            assert_eq!(store.format(&mut image, 1_024, second_edition), OK);
+            assert!(image == [form.plain(0, &[]), form.cleared(1)].concat(), "{form:?}");
         }
     }
     // The open page of lowest index says which edition is read, and in it which pages are used.
-    let [first, other] = [plain(0, &[record(5, 1)]), second(plain(1, &[record(5, 2)]))];
-    assert_eq!(reads(store, &[first.clone(), other.clone(), cleared(1)], 5), (OK, 1));
-    assert_eq!(reads(store, &[other.clone(), first.clone(), cleared(1)], 5), (OK, 2));
-    assert_eq!(reads(store, &[second(cleared(1)), vec![0; PAGE_BYTES], first.clone(), other.clone()], 5), (OK, 1));
-    let receiving = second(page_of(first_edition(1), order_word(9, RECEIVING), BLANK, &[]));
-    assert_eq!(reads(store, &[receiving, first.clone(), other.clone()], 5), (OK, 1));
-    assert_eq!(reads(store, &[second(plain(0, &[])), first.clone(), cleared(1)], 5), (NOT_HELD, 0));
+    let [first, other] = [FIRST.plain(0, &[record(5, 1)]), SECOND.plain(1, &[record(5, 2)])];
+    let bad = FIRST.filled_with(0);
+    assert_eq!(reads(&[first.clone(), other.clone(), FIRST.cleared(1)], 5), (OK, 1));
+    assert_eq!(reads(&[other.clone(), first.clone(), FIRST.cleared(1)], 5), (OK, 2));
+    assert_eq!(reads(&[SECOND.cleared(1), bad, first.clone(), other.clone()], 5), (OK, 1));
+    assert_eq!(reads(&[SECOND.receiving(9, &[]), first.clone(), other.clone()], 5), (OK, 1));
+    assert_eq!(reads(&[SECOND.plain(0, &[]), first.clone(), FIRST.cleared(1)], 5), (NOT_HELD, 0));
     // With two pages of two editions none is damaged, and no page is cleared.
-    assert_eq!(reads(store, &[other.clone(), plain(1, &[record(5, 1)])], 5), (OK, 2));
+    assert_eq!(reads(&[other.clone(), FIRST.plain(1, &[record(5, 1)])], 5), (OK, 2));
     // No other edition is read, and alone it is no store.
     for third_byte in [0, 3, 255] {
-        let unread = page_of(sound_word([1, 0, third_byte]), order_word(0, PLAIN), BLANK, &[record(5, 9)]);
-        assert_eq!(reads(store, &[unread.clone(), cleared(1)], 5), (NO_STORE, 0));
-        assert_eq!(reads(store, &[unread, other.clone(), second(cleared(1))], 5), (OK, 2));
+        let unread = FIRST.page_of(sound_word([1, 0, third_byte]), order_word(0, PLAIN), BLANK, &[record(5, 9)]);
+        assert_eq!(reads(&[unread.clone(), FIRST.cleared(1)], 5), (NO_STORE, 0));
+        assert_eq!(reads(&[unread, other.clone(), SECOND.cleared(1)], 5), (OK, 2));
     }
     // A page of the other edition has no wear, and is renewed with the store's.
-    let mut image = [second(plain(0, &[])), cleared(9), unclean(first_edition(30)), second(cleared(4))].concat();
-    assert_eq!(store.write(&mut image, 5, 1, u16::MAX), Stepped::refused(UNCLEAN));
-    assert_eq!(store.recover(&mut image, u16::MAX), done(6));
-    assert!(image == [plain(0, &[]), cleared(5), cleared(6), cleared(4)].map(second).concat());
+    let unclean = FIRST.unclean(FIRST.wear(30));
+    let mut image = [SECOND.plain(0, &[]), FIRST.cleared(9), unclean, SECOND.cleared(4)].concat();
+    assert_eq!(FIRST.write(store, &mut image, 5, 1), Stepped::refused(UNCLEAN));
+    assert_eq!(FIRST.recover(store, &mut image), done(6));
+    assert!(
+        image == [vec![SECOND.plain(0, &[])], [5, 6, 4].map(|wear| SECOND.cleared(wear)).to_vec()].concat().concat()
+    );
     // The edition is that at the call, also where the page that says it is renewed first, and then another.
-    let old = [plain(3, &[]), second(plain(9, &[record(5, 8)])), moved(4, &[record(5, 7)]), cleared(2)];
-    for edition in EDITIONS {
-        let [of_edition, of_other] = [edition as u8, 3 - edition as u8];
-        let mut pages = old.clone();
-        for (page, third_byte) in pages.iter_mut().zip([of_edition, of_other, of_edition, of_edition]) {
-            let wear = sound_word([page[0], page[1], third_byte]);
-            page[..OPENING_OFFSET].copy_from_slice(&wear);
-        }
-        let mut image = pages.concat();
-        assert_eq!(store.read(&image, 5), Reading { number: OK, value: 7 });
-        assert_eq!(store.recover(&mut image, u16::MAX), done(6));
-        let renewed = [2, 3].map(|wear| page_of(wear_word(wear, edition), BLANK, BLANK, &[]));
-        assert!(image == [renewed.concat(), pages[2..].concat()].concat(), "{edition:?}");
+    for [form, other] in [[FIRST, SECOND], [SECOND, FIRST]] {
+        let used = form.moved(4, &[record(5, 7)]);
+        let old = [form.plain(3, &[]), other.plain(9, &[record(5, 8)])];
+        let mut image = [old.concat(), used.clone(), form.cleared(2)].concat();
+        assert_eq!(store.read(&image, 1_024, 5), Reading { number: OK, value: 7 });
+        assert_eq!(form.recover(store, &mut image), done(6));
+        assert!(image == [form.cleared(2), form.cleared(3), used, form.cleared(2)].concat(), "{form:?}");
     }
     // A move renews with the store's edition too.
-    let full = [vec![A], vec![B; SLOTS - 1]].concat();
-    let mut image = [second(plain(0, &full)), second(cleared(1))].concat();
-    assert_eq!(store.write(&mut image, 5, 1, u16::MAX), done(11));
-    assert!(image == [second(cleared(2)), second(moved(1, &[B, record(5, 1)]))].concat());
+    let full = [vec![A], vec![B; SECOND.slots() - 1]].concat();
+    let mut image = [SECOND.plain(0, &full), SECOND.cleared(1)].concat();
+    assert_eq!(SECOND.write(store, &mut image, 5, 1), done(11));
+    assert!(image == [SECOND.cleared(2), SECOND.moved(1, &[B, record(5, 1)])].concat());
 }
 
 #[test]
@@ -500,17 +579,18 @@ fn a_store_has_one_edition() {
     on_every_store(editions);
 }
 
-/// A store of the second edition in which these addresses are held, with value 1, and so many slots are free.
-fn with_free_slots(order: u32, held: u16, free: usize) -> [Vec<u8>; 2] {
+/// A store in which these addresses are held, with value 1, and so many slots are free.
+fn with_free_slots(form: Form, order: u32, held: u16, free: usize) -> [Vec<u8>; 2] {
     let mut slots: Vec<Word> = (0..held).map(|address| record(address, 1)).collect();
-    slots.resize(SLOTS - free, SPOILED);
-    [second(plain(order, &slots)), second(cleared(1))]
+    slots.resize(form.slots() - free, SPOILED);
+    [form.plain(order, &slots), form.cleared(1)]
 }
 
-fn answers_to_groups(store: &dyn Store) {
-    let number = |pages: &[Vec<u8>], group: &[Setting]| group_write(store, &mut pages.concat(), group).number;
-    let bytes = |pages: &[Vec<u8>], group: &[u8]| store.write_group(&mut pages.concat(), group, 9).number;
-    let empty = [second(plain(0, &[])), second(cleared(1))];
+fn answers_to_groups(store: &dyn Store, form: Form) {
+    let number = |pages: &[Vec<u8>], group: &[Setting]| form.write_group(store, &mut pages.concat(), group).number;
+    let bytes = |pages: &[Vec<u8>], group: &[u8]| store.write_group(&mut pages.concat(), form.size(), group, 9).number;
+    let with_free_slots = |order, held, free| with_free_slots(form, order, held, free);
+    let empty = [form.plain(0, &[]), form.cleared(1)];
     let new: Vec<Setting> = (300..309).map(|address| (address, 7)).collect();
     // 9, by length: only 3, 6 and so on to 24 bytes are a group.
     for length in (0..=40).chain([255, 256, 300, 765, 768, 771, 3_072]) {
@@ -518,25 +598,21 @@ fn answers_to_groups(store: &dyn Store) {
         let expected = if length % 3 == 0 && (3..=24).contains(&length) { OK } else { GROUP };
         assert_eq!(bytes(&empty, &group), expected, "{length} bytes");
     }
-    // 9, by an address that is named twice, with one value or two, side by side or not; and by the edition.
+    // 9, by an address that is named twice, with one value or two, side by side or not.
     assert_eq!(number(&empty, &[(5, 1), (5, 2)]), GROUP);
     assert_eq!(number(&empty, &[(5, 1), (6, 2), (5, 1)]), GROUP);
     assert_eq!(number(&empty, &[&new[..7], &[(300, 7)]].concat()), GROUP);
-    assert_eq!(number(&[plain(0, &[]), cleared(1)], &[(5, 1)]), GROUP);
-    assert_eq!(number(&[plain(0, &[A]), cleared(1)], &[(5, 0x41)]), GROUP);
     // Which comes first: 1, 2, 3, 4, then 9, then 5, 6 and 7.
     let no_address = [(5, 1), (NO_ADDRESS, 1)];
     let twice = [(NO_ADDRESS, 1), (NO_ADDRESS, 2)];
     assert_eq!(number(&empty[..1], &twice), SIZE);
-    assert_eq!(number(&[second(cleared(1)), second(cleared(1))], &twice), NO_STORE);
-    assert_eq!(number(&[second(plain(0, &[])), second(plain(0, &[])), second(cleared(1))], &twice), DAMAGED);
+    assert_eq!(number(&[form.cleared(1), form.cleared(1)], &twice), NO_STORE);
+    assert_eq!(number(&[form.plain(0, &[]), form.plain(0, &[]), form.cleared(1)], &twice), DAMAGED);
     assert_eq!(number(&with_free_slots(0, 193, 0), &twice), DAMAGED);
-    assert_eq!(number(&[second(plain(0, &[])), cleared(1)], &twice), UNCLEAN);
-    assert_eq!(number(&[second(plain(0, &[o(1)])), second(cleared(1))], &twice), UNCLEAN);
-    assert_eq!(number(&[plain(0, &[]), second(cleared(1))], &[(5, 1)]), UNCLEAN);
+    assert_eq!(number(&[form.plain(0, &[]), form.filled_with(0)], &twice), UNCLEAN);
+    assert_eq!(number(&[form.plain(0, &[o(1)]), form.cleared(1)], &twice), UNCLEAN);
     assert_eq!(number(&empty, &twice), GROUP);
     assert_eq!(number(&empty, &[&new[..], &[(NO_ADDRESS, 1)]].concat()), GROUP);
-    assert_eq!(number(&[plain(0, &[]), cleared(1)], &no_address), GROUP);
     assert_eq!(number(&empty, &no_address), ADDRESS);
     assert_eq!(number(&empty, &[(NO_ADDRESS, 1), (5, 1)]), ADDRESS);
     assert_eq!(number(&with_free_slots(LAST_ORDER, 192, 0), &no_address), ADDRESS);
@@ -559,125 +635,133 @@ fn answers_to_groups(store: &dyn Store) {
     for held in [(0..8), (7..8), (3..6)] {
         let group: Vec<Setting> = held.map(|address| (address, 1)).collect();
         let mut image = with_free_slots(LAST_ORDER, 192, 0).concat();
-        assert_eq!(group_write(store, &mut image, &group), done(0));
+        assert_eq!(form.write_group(store, &mut image, &group), done(0));
     }
     assert_eq!(number(&with_free_slots(LAST_ORDER, 192, 0), &[(0, 1), (1, 2)]), ORDER_END);
 }
 
+/// 9, by the edition: the first has no groups.
+fn first_edition_and_groups(store: &dyn Store) {
+    let number = |pages: &[Vec<u8>], group: &[Setting]| FIRST.write_group(store, &mut pages.concat(), group).number;
+    let no_address = [(5, 1), (NO_ADDRESS, 1)];
+    assert_eq!(number(&[FIRST.plain(0, &[]), FIRST.cleared(1)], &[(5, 1)]), GROUP);
+    assert_eq!(number(&[FIRST.plain(0, &[A]), FIRST.cleared(1)], &[(5, 0x41)]), GROUP);
+    assert_eq!(number(&[FIRST.plain(0, &[]), FIRST.cleared(1)], &no_address), GROUP);
+    assert_eq!(number(&[FIRST.plain(0, &[]), SECOND.cleared(1)], &[(5, 1)]), UNCLEAN);
+    assert_eq!(number(&[SECOND.plain(0, &[]), FIRST.cleared(1)], &[(5, 1), (5, 2)]), UNCLEAN);
+}
+
 #[test]
 fn groups_are_tested_in_order() {
-    on_every_store(answers_to_groups);
+    in_forms(&WITH_GROUPS, answers_to_groups);
+    on_every_store(first_edition_and_groups);
 }
 
 /// Where the words of a group stand, in a page, in a new one and after a move, whatever the allowance.
-fn placing(store: &dyn Store) {
+fn placing(store: &dyn Store, form: Form) {
     let group = [(9, 3), (5, 0x41), (7, 1)];
     let records = [record(9, 3), record(5, 0x41), record(7, 1)];
     let words = [vec![o(3)], records.to_vec(), vec![c(3)]].concat();
     let writes = |before: Vec<u8>, after: Vec<u8>, steps: u16| {
         let mut image = before.clone();
-        assert_eq!(group_write(store, &mut image, &group), done(steps));
+        assert_eq!(form.write_group(store, &mut image, &group), done(steps));
         assert!(image == after, "{steps} steps");
         for allowance in 0..steps {
             let mut image = before.clone();
-            let answer = store.write_group(&mut image, &group_bytes(&group), allowance);
+            let answer = store.write_group(&mut image, form.size(), &group_bytes(&group), allowance);
             assert_eq!(answer, Stepped { number: OK, finished: false, steps: allowance });
-            assert_eq!(store.read(&image, 7).number, NOT_HELD, "after {allowance} of {steps} steps");
-            assert_eq!(store.read(&image, 5), store.read(&before, 5));
-            assert_eq!(store.read(&image, 9), store.read(&before, 9));
+            let read = |image: &[u8], address| store.read(image, form.size(), address);
+            assert_eq!(read(&image, 7).number, NOT_HELD, "after {allowance} of {steps} steps");
+            assert_eq!(read(&image, 5), read(&before, 5));
+            assert_eq!(read(&image, 9), read(&before, 9));
         }
     };
     // 5 has its value already and is written all the same. Five slots are enough, and four are as good as none.
     let held = [A, record(9, 2)];
-    let filled = |free: usize| [vec![SPOILED; SLOTS - 2 - free], held.to_vec()].concat();
-    for free in [5, 6, 100] {
+    let filled = |free: usize| [vec![SPOILED; form.slots() - 2 - free], held.to_vec()].concat();
+    for free in [5, 6, 100, (form.slots() - 251).max(5)] {
         let after = [filled(free), words.clone()].concat();
-        let cleared = second(cleared(1));
-        writes(
-            [second(plain(0, &filled(free))), cleared.clone()].concat(),
-            [second(plain(0, &after)), cleared].concat(),
-            10,
-        );
+        let cleared = form.cleared(1);
+        let before = [form.plain(0, &filled(free)), cleared.clone()].concat();
+        writes(before, [form.plain(0, &after), cleared].concat(), 10);
     }
     for free in [4, 3, 2, 1, 0] {
-        let full = second(plain(0, &filled(free)));
-        let new_page = second(page_of(first_edition(3), order_word(1, PLAIN), BLANK, &words));
-        let [worn, least] = [second(cleared(4)), second(cleared(3))];
+        let full = form.plain(0, &filled(free));
+        let new_page = form.page_of(form.wear(3), order_word(1, PLAIN), BLANK, &words);
+        let [worn, least] = [form.cleared(4), form.cleared(3)];
         writes(
             [full.clone(), worn.clone(), least.clone()].concat(),
             [full.clone(), worn.clone(), new_page].concat(),
             12,
         );
         // In a move the done word is the moment of the new values, and the renewals follow it.
-        let moved_to = page_of(first_edition(3), order_word(1, RECEIVING), done_word(1), &records);
+        let moved_to = form.page_of(form.wear(3), order_word(1, RECEIVING), done_word(1), &records);
         let mut image = [full.clone(), least.clone()].concat();
-        assert_eq!(group_write(store, &mut image, &group), done(2 * 3 + 4 + 3));
-        assert!(image == [second(cleared(2)), second(moved_to)].concat(), "a move with {free} free slots");
+        assert_eq!(form.write_group(store, &mut image, &group), done(2 * 3 + 4 + 3));
+        assert!(image == [form.cleared(2), moved_to].concat(), "a move with {free} free slots");
     }
     // A group of one has its marks too.
-    let mut image = [second(plain(0, &[])), second(cleared(1))].concat();
-    assert_eq!(group_write(store, &mut image, &[(7, 1)]), done(6));
-    assert_eq!(page_at(&image, 0), second(plain(0, &[o(1), record(7, 1), c(1)])));
+    let mut image = [form.plain(0, &[]), form.cleared(1)].concat();
+    assert_eq!(form.write_group(store, &mut image, &[(7, 1)]), done(6));
+    assert_eq!(form.page_at(&image, 0), form.plain(0, &[o(1), record(7, 1), c(1)]));
     // A move copies the other addresses by rising address, before the group's in the order given.
     let others = [record(8, 8), record(2, 2), record(5, 1), record(9, 9)];
-    let full = [vec![SPOILED; SLOTS - 4], others.to_vec()].concat();
-    let mut image = [second(plain(6, &full)), second(cleared(1))].concat();
-    assert_eq!(group_write(store, &mut image, &group), done(2 * 5 + 4 + 3));
-    let moved_to = moved(7, &[vec![record(2, 2), record(8, 8)], records.to_vec()].concat());
-    assert!(image == [second(cleared(2)), second(moved_to)].concat());
+    let full = [vec![SPOILED; form.slots() - 4], others.to_vec()].concat();
+    let mut image = [form.plain(6, &full), form.cleared(1)].concat();
+    assert_eq!(form.write_group(store, &mut image, &group), done(2 * 5 + 4 + 3));
+    let moved_to = form.moved(7, &[vec![record(2, 2), record(8, 8)], records.to_vec()].concat());
+    assert!(image == [form.cleared(2), moved_to].concat());
 }
 
 #[test]
 fn a_group_stands_in_one_page() {
-    on_every_store(placing);
+    in_forms(&WITH_GROUPS, placing);
 }
 
 /// Recovery abandons an open group first, in the free slot, and then renews, in the order of the pages.
-fn abandoning(store: &dyn Store) {
-    let bad = vec![0; PAGE_BYTES];
-    let before = [bad.clone(), second(plain(0, &[o(2), A])), bad.clone()].concat();
-    let abandoned = second(plain(0, &[o(2), A, ab()]));
+fn abandoning(store: &dyn Store, form: Form) {
+    let bad = form.filled_with(0);
+    let before = [bad.clone(), form.plain(0, &[o(2), A]), bad.clone()].concat();
+    let abandoned = form.plain(0, &[o(2), A, ab()]);
     let stages = [
         (0, before.clone()),
         (1, before.clone()),
         (2, [bad.clone(), abandoned.clone(), bad.clone()].concat()),
-        (5, [second(cleared(2)), abandoned.clone(), bad].concat()),
-        (8, [second(cleared(2)), abandoned, second(cleared(3))].concat()),
+        (5, [form.cleared(2), abandoned.clone(), bad].concat()),
+        (8, [form.cleared(2), abandoned, form.cleared(3)].concat()),
     ];
     for (allowance, after) in stages {
         let mut image = before.clone();
-        let answer = store.recover(&mut image, allowance);
+        let answer = store.recover(&mut image, form.size(), allowance);
         assert_eq!(answer, Stepped { number: OK, finished: allowance == 8, steps: allowance });
         assert!(image == after, "after {allowance} steps");
     }
     // The last slot is a free one; and where a mark was spoiled the next is taken.
-    let last = [vec![SPOILED; SLOTS - 3], vec![o(1), A]].concat();
-    let mut image = [second(plain(0, &last)), second(cleared(1))].concat();
-    assert_eq!(store.recover(&mut image, u16::MAX), done(2));
-    assert_eq!(slot_word(page_at(&image, 0), SLOTS - 1), ab());
-    let mut image = [second(plain(0, &[o(1), A, [0xFF, 0xFF, 0x20, 0x08]])), second(cleared(1))].concat();
-    assert_eq!(store.recover(&mut image, u16::MAX), done(2));
-    assert_eq!(slot_word(page_at(&image, 0), 3), ab());
-    assert_eq!(store.recover(&mut image, u16::MAX), done(0));
+    let last = [vec![SPOILED; form.slots() - 3], vec![o(1), A]].concat();
+    let mut image = [form.plain(0, &last), form.cleared(1)].concat();
+    assert_eq!(form.recover(store, &mut image), done(2));
+    assert_eq!(slot_word(form.page_at(&image, 0), form.slots() - 1), ab());
+    let mut image = [form.plain(0, &[o(1), A, [0xFF, 0xFF, 0x20, 0x08]]), form.cleared(1)].concat();
+    assert_eq!(form.recover(store, &mut image), done(2));
+    assert_eq!(slot_word(form.page_at(&image, 0), 3), ab());
+    assert_eq!(form.recover(store, &mut image), done(0));
 }
 
 #[test]
 fn recovery_abandons_first() {
-    on_every_store(abandoning);
+    in_forms(&WITH_GROUPS, abandoning);
 }
 
 /// The listing counts what is half-written and spoiled in place: of marks only those that open inside a group.
 #[test]
 fn the_listing_counts_groups() {
-    let counted = |edition: Edition, slots: &[Word]| {
-        let pages = [plain(0, slots), cleared(1)];
-        let pages = if edition == Edition::Second { pages.map(second) } else { pages };
-        let text = String::from_utf8(listing(&pages.concat())).unwrap();
+    let counted = |form: Form, slots: &[Word]| {
+        let text = String::from_utf8(listing(&[form.plain(0, slots), form.cleared(1)].concat())).unwrap();
         text.lines().next().unwrap().split_once(" held ").unwrap().1.to_string()
     };
-    let in_second = |slots: &[Word]| counted(Edition::Second, slots);
+    let in_second = |slots: &[Word]| counted(SECOND, slots);
     assert_eq!(in_second(&[o(2), A, B, c(2)]), "2 half 0 spoiled 0");
-    assert_eq!(counted(Edition::First, &[o(2), A, B, c(2), ab()]), "2 half 0 spoiled 3");
+    assert_eq!(counted(FIRST, &[o(2), A, B, c(2), ab()]), "2 half 0 spoiled 3");
     assert_eq!(in_second(&[o(2), A, o(1), B, c(1)]), "0 half 0 spoiled 1");
     assert_eq!(in_second(&[o(2), o(1), A, o(2), B]), "0 half 0 spoiled 2");
     assert_eq!(in_second(&[c(1), ab(), A, c(2)]), "1 half 0 spoiled 0");
@@ -685,30 +769,259 @@ fn the_listing_counts_groups() {
     assert_eq!(in_second(&[9, 128, 137, 255].map(|value| record(NO_ADDRESS, value))), "0 half 0 spoiled 4");
     assert_eq!(in_second(&[o(1), record(NO_ADDRESS, 9), c(1)]), "0 half 0 spoiled 1");
     // The slots of a page of the other edition don't count.
-    let pages = [second(plain(0, &[A])), plain(1, &[SPOILED, B]), second(cleared(1))].concat();
+    let pages = [SECOND.plain(0, &[A]), FIRST.plain(1, &[SPOILED, B]), SECOND.cleared(1)].concat();
     assert_eq!(listing(&pages), b"pages 3 used 1 cleared 1 order 0 held 1 half 0 spoiled 0\n5 65\n");
+}
+
+// Wish 12: page sizes, and the larger chip.
+
+/// A call, of which only the number is looked at.
+type Number<'a> = &'a dyn Fn(&mut [u8]) -> u8;
+
+/// The numbers that the calls give, both formats first, each on a copy of the image; refused calls leave it as it is.
+fn numbers(store: &dyn Store, image: &[u8], size: u16) -> [u8; 8] {
+    let calls: [Number; 8] = [
+        &|image| store.format(image, size, false),
+        &|image| store.format(image, size, true),
+        &|image| store.recover(image, size, u16::MAX).number,
+        &|image| store.write(image, size, 5, 1, u16::MAX).number,
+        &|image| store.write_group(image, size, &[5, 0, 1], u16::MAX).number,
+        &|image| store.read(image, size, 5).number,
+        &|image| store.blank_read(image, size, 5).number,
+        &|image| store.lookup(image, size).number,
+    ];
+    calls.map(|call| {
+        let mut copy = image.to_vec();
+        let number = call(&mut copy);
+        assert!(number == OK || copy == image, "refused with {number} at {size}, yet the image changed");
+        number
+    })
+}
+
+/// Any size but two is refused, whatever the image.
+fn sizes(store: &dyn Store) {
+    for form in FORMS {
+        let image = [form.plain(0, &[A]), form.cleared(1), form.cleared(1), form.cleared(1)].concat();
+        for size in WRONG_SIZES {
+            assert_eq!(numbers(store, &image, size), [SIZE; 8], "{size}");
+            assert_eq!(numbers(store, &[], size), [SIZE; 8], "{size} and no bytes");
+        }
+        for size in (0..=u16::MAX).filter(|size| ![1_024, 2_048].contains(size)) {
+            assert_eq!(store.read(&image, size, 5), Reading::refused(SIZE), "{size}");
+        }
+        assert_eq!(store.read(&image, form.size(), 5), Reading { number: OK, value: 0x41 });
+        // At the other size the page is bad.
+        assert_eq!(store.read(&image, 3_072 - form.size(), 5), Reading::refused(NO_STORE));
+    }
+}
+
+/// Lengths, and whether they are of 2 to 32 whole pages at 1,024 and at 2,048.
+const LENGTHS: [(usize, bool, bool); 21] = [
+    (0, false, false),
+    (1_023, false, false),
+    (1_024, false, false),
+    (2_047, false, false),
+    (2_048, true, false),
+    (2_049, false, false),
+    (3_072, true, false),
+    (4_095, false, false),
+    (4_096, true, true),
+    (4_097, false, false),
+    (5_120, true, false),
+    (6_144, true, true),
+    (32_768, true, true),
+    (33_792, false, false),
+    (34_816, false, true),
+    (64_512, false, false),
+    (65_536, false, true),
+    (65_537, false, false),
+    (67_584, false, false),
+    (69_632, false, false),
+    (131_072, false, false),
+];
+
+/// The named size measures.
+fn lengths(store: &dyn Store) {
+    for (length, at_smaller, at_larger) in LENGTHS {
+        for (size, right) in [(1_024, at_smaller), (2_048, at_larger)] {
+            let [other, format] = if right { [NO_STORE, OK] } else { [SIZE, SIZE] };
+            let expected = [format, format, other, other, other, other, other, other];
+            assert_eq!(numbers(store, &vec![255; length], size), expected, "{length} bytes at {size}");
+        }
+    }
+}
+
+#[test]
+fn the_named_size_measures() {
+    on_every_store(sizes);
+    on_every_store(lengths);
+}
+
+/// A larger page has 509 slots, and all of it is one page.
+fn slots_of_larger(store: &dyn Store) {
+    let cleared = || THIRD.cleared(1);
+    let taken = |count: usize| vec![SPOILED; count];
+    assert_eq!((FIRST.slots(), SECOND.slots(), THIRD.slots()), (253, 253, 509));
+    for slot in 0..509 {
+        let older = [vec![record(5, 1); slot], vec![A]].concat();
+        assert_eq!(THIRD.reads(store, &[THIRD.plain(0, &older), cleared()], 5), (OK, 0x41), "slot {slot}");
+        // The record goes to the free slot, which is this one.
+        let mut image = [THIRD.plain(0, &taken(slot)), cleared()].concat();
+        assert_eq!(THIRD.write(store, &mut image, 5, 0x41), done(2), "slot {slot}");
+        assert!(image == [THIRD.plain(0, &[taken(slot), vec![A]].concat()), cleared()].concat(), "slot {slot}");
+        assert_eq!(image[12 + 4 * slot..][..4], A);
+        assert_eq!(store.read(&image, 2_048, 5), Reading { number: OK, value: 0x41 }, "slot {slot}");
+    }
+    // With slot 508 taken a page is full, and not before.
+    let full = THIRD.plain(0, &[taken(508), vec![A]].concat());
+    let mut image = [full.clone(), cleared(), cleared()].concat();
+    assert_eq!(THIRD.write(store, &mut image, 6, 0x42), done(4));
+    assert!(image == [full.clone(), THIRD.plain(1, &[B]), cleared()].concat());
+    let mut image = [full, cleared()].concat();
+    assert_eq!(THIRD.write(store, &mut image, 6, 0x42), done(2 * 2 + 4 + 3));
+    assert!(image == [THIRD.cleared(2), THIRD.moved(1, &[A, B])].concat());
+    // A group may stand anywhere, over offset 1,024 too.
+    for before in (240..260).chain([503, 504, 505]) {
+        let mut image = [THIRD.plain(0, &taken(before)), cleared()].concat();
+        assert_eq!(THIRD.write_group(store, &mut image, &[(5, 0x41), (6, 0x42)]), done(8), "behind {before} slots");
+        let words = [taken(before), vec![o(2), A, B, c(2)]].concat();
+        assert!(image == [THIRD.plain(0, &words), cleared()].concat(), "behind {before} slots");
+        assert_eq!(found(store, THIRD, &image), BOTH, "behind {before} slots");
+    }
+    // One byte that isn't 255 is enough for a page that isn't cleared, and an erase is of all its bytes.
+    for at in [4, 12, 1_023, 1_024, 1_025, 2_047] {
+        let mut odd = cleared();
+        odd[at] = 254;
+        let mut image = [THIRD.plain(0, &[]), odd].concat();
+        assert_eq!(THIRD.write(store, &mut image, 5, 1), Stepped::refused(UNCLEAN), "byte {at}");
+        assert_eq!(THIRD.recover(store, &mut image), done(3), "byte {at}");
+        assert!(image == [THIRD.plain(0, &[]), THIRD.cleared(2)].concat(), "byte {at}");
+    }
+    let mut image = [THIRD.plain(0, &[]), THIRD.filled_with(0)].concat();
+    assert_eq!(THIRD.recover(store, &mut image), done(3));
+    assert!(image == [THIRD.plain(0, &[]), THIRD.cleared(2)].concat());
+}
+
+#[test]
+fn a_larger_page_has_509_slots() {
+    on_every_store(slots_of_larger);
+}
+
+/// The one edition of the larger chip is 3, and format isn't told.
+fn edition_of_larger(store: &dyn Store) {
+    for second_edition in [false, true] {
+        for before in
+            [THIRD.plain(3, &[A]), [FIRST.plain(3, &[A]), SECOND.plain(3, &[A])].concat(), THIRD.filled_with(0)]
+        {
+            let mut image = [before.clone(), before].concat();
+            assert_eq!(store.format(&mut image, 2_048, second_edition), OK);
+            assert!(image == [THIRD.plain(0, &[]), THIRD.cleared(1)].concat(), "told {second_edition}");
+            assert_eq!(image[..8], [0x01, 0x00, 0x03, 0x15, 0x01, 0x00, 0x00, 0x17]);
+        }
+    }
+    for third_byte in [0, 1, 2, 4, 255] {
+        let wear = |wear| sound_word([wear, 0, third_byte]);
+        let unread = THIRD.page_of(wear(9), order_word(7, PLAIN), BLANK, &[record(5, 9)]);
+        let not_cleared = THIRD.page_of(wear(9), BLANK, BLANK, &[]);
+        assert_eq!(THIRD.reads(store, &[unread.clone(), not_cleared.clone()], 5), (NO_STORE, 0), "{third_byte}");
+        assert_eq!(THIRD.reads(store, &[unread.clone(), THIRD.cleared(1)], 5), (NO_STORE, 0), "{third_byte}");
+        // Such a page has no wear, and is renewed with the edition that there is.
+        let open = THIRD.plain(0, &[A]);
+        let mut image = [unread, open.clone(), not_cleared].concat();
+        assert_eq!(store.read(&image, 2_048, 5), Reading { number: OK, value: 0x41 }, "{third_byte}");
+        assert_eq!(THIRD.write(store, &mut image, 5, 1), Stepped::refused(UNCLEAN), "{third_byte}");
+        assert_eq!(THIRD.recover(store, &mut image), done(6), "{third_byte}");
+        assert!(image == [THIRD.cleared(2), open, THIRD.cleared(3)].concat(), "{third_byte}");
+    }
+}
+
+#[test]
+fn the_larger_chip_has_one_edition() {
+    on_every_store(edition_of_larger);
+}
+
+/// Writes at 2,048 may make what is a page's header at 1,024: slots 253 to 255, in the middle of a page. Whoever names
+/// 1,024 then finds a store in the rest of that page, and a recovery there takes the other half away.
+fn records_that_pass_for_a_header(store: &dyn Store) {
+    let mut image = THIRD.filled_with(0).repeat(2);
+    assert_eq!(store.format(&mut image, 2_048, false), OK);
+    (0..253).for_each(|count| assert_eq!(THIRD.write(store, &mut image, 5, count), done(2)));
+    for (address, value) in [(1, 1), (1, 0), (7, 200), (9, 33)] {
+        assert_eq!(store.read(&image, 1_024, 9), Reading::refused(if address < 7 { NO_STORE } else { NOT_HELD }));
+        assert_eq!(THIRD.write(store, &mut image, address, value), done(2));
+    }
+    let middle = [FIRST.wear(1), order_word(0, PLAIN), record(7, 200), record(9, 33)].concat();
+    assert_eq!(image[1_024..][..16], middle);
+    for (address, at_smaller, at_larger) in [(5, None, Some(252)), (1, None, Some(0)), (9, Some(33), Some(33))] {
+        for (size, held) in [(1_024, at_smaller), (2_048, at_larger)] {
+            let expected = held.map_or(Reading::refused(NOT_HELD), |value| Reading { number: OK, value });
+            assert_eq!(store.read(&image, size, address), expected, "{address} at {size}");
+        }
+    }
+    assert_eq!(FIRST.write(store, &mut image, 9, 34), Stepped::refused(UNCLEAN));
+    assert_eq!(FIRST.recover(store, &mut image), done(9));
+    assert_eq!(store.read(&image, 2_048, 5), Reading::refused(NO_STORE));
+}
+
+#[test]
+fn records_may_pass_for_a_header() {
+    on_every_store(records_that_pass_for_a_header);
+}
+
+fn is_caught(rule: impl Fn()) -> bool {
+    catch_unwind(AssertUnwindSafe(rule)).is_err()
 }
 
 #[test]
 fn broken_stores_are_caught() {
-    let receiving = page_of(first_edition(1), order_word(9, RECEIVING), BLANK, &[record(5, 7)]);
-    let pages = [plain(3, &[record(5, 1)]), receiving, cleared(1)];
-    assert_eq!(reads(&Second, &pages, 5), (OK, 1));
+    let pages = [FIRST.plain(3, &[record(5, 1)]), FIRST.receiving(9, &[record(5, 7)]), FIRST.cleared(1)];
+    assert_eq!(FIRST.reads(&Second, &pages, 5), (OK, 1));
     let broken = Stepwise(Broken::ReceivingIsCurrent);
-    assert!(catch_unwind(AssertUnwindSafe(|| assert_eq!(reads(&broken, &pages, 5), (OK, 1)))).is_err());
-    assert!(catch_unwind(AssertUnwindSafe(|| checks_by_hand(&Stepwise(Broken::LowHalfTwice)))).is_err());
-    for broken in WRONG_WEARS {
-        assert!(catch_unwind(AssertUnwindSafe(|| lost_wears(&Stepwise(broken)))).is_err(), "{broken:?}");
+    assert!(is_caught(|| assert_eq!(FIRST.reads(&broken, &pages, 5), (OK, 1))));
+    for form in FORMS {
+        assert!(is_caught(|| checks_by_hand(&Stepwise(Broken::LowHalfTwice), form)));
+        for broken in WRONG_WEARS {
+            assert!(is_caught(|| lost_wears(&Stepwise(broken), form)), "{broken:?}");
+        }
+        for wrong in WRONG_PAIRINGS {
+            assert!([codes, blanks].iter().any(|rule| is_caught(|| rule(&wrong, form))), "{wrong:?}");
+        }
     }
-    let of_groups = [counting, dead_groups, order_in_groups, editions, answers_to_groups, placing, abandoning];
-    of_groups.iter().for_each(|rule| rule(&Stepwise(WrongGroup::Nothing)));
+}
+
+type Rule = fn(&dyn Store);
+type RuleOfForm = fn(&dyn Store, Form);
+
+const OF_GROUPS: [RuleOfForm; 6] = [counting, dead_groups, order_in_groups, answers_to_groups, placing, abandoning];
+
+/// What only the smaller chip has is caught there, and all else on both.
+#[test]
+fn wrong_groups_are_caught() {
+    let of_editions: [Rule; 3] = [counting_all, editions, first_edition_and_groups];
+    let passes = |store: &dyn Store| {
+        of_editions.iter().for_each(|rule| rule(store));
+        WITH_GROUPS.into_iter().for_each(|form| OF_GROUPS.iter().for_each(|rule| rule(store, form)));
+    };
+    passes(&Stepwise(WrongGroup::Nothing));
     for wrong in WRONG_GROUPS {
         let store = Stepwise(wrong);
-        let caught = of_groups.map(|rule| catch_unwind(AssertUnwindSafe(|| rule(&store))).is_err());
-        assert!(caught.contains(&true), "{wrong:?}");
+        let in_form = |form| OF_GROUPS.iter().any(|rule| is_caught(|| rule(&store, form)));
+        let by_editions = of_editions.iter().any(|rule| is_caught(|| rule(&store)));
+        assert!(by_editions || WITH_GROUPS.into_iter().all(in_form), "{wrong:?}");
     }
-    for wrong in WRONG_PAIRINGS {
-        let caught = [codes, blanks].map(|rule| catch_unwind(AssertUnwindSafe(|| rule(&wrong))).is_err());
-        assert!(caught.contains(&true), "{wrong:?}");
+}
+
+#[test]
+fn wrong_chips_are_caught() {
+    let of_chips: [Rule; 6] =
+        [editions, sizes, lengths, slots_of_larger, edition_of_larger, records_that_pass_for_a_header];
+    let passes = |store: &dyn Store| {
+        of_chips.iter().for_each(|rule| rule(store));
+        OF_GROUPS.iter().for_each(|rule| rule(store, THIRD));
+    };
+    passes(&Stepwise(WrongChip::Nothing));
+    for wrong in WRONG_CHIPS {
+        let store = Stepwise(wrong);
+        assert!(is_caught(|| passes(&store)), "{wrong:?}");
     }
 }

@@ -1,4 +1,4 @@
-//! The stack that each exported call uses: at most 4 KB, on images of 2 and of 32 pages.
+//! The stack that each exported call uses: at most 4 KB, on images of 2 and of 32 pages of either chip.
 //!
 //! A call runs on a stack of its own that was painted before; how far down it changed the paint is what it used. Two
 //! paints, because a byte that is written with the paint's own value shows nothing. For x86-64 and aarch64 on Linux.
@@ -9,7 +9,7 @@
 
 use std::arch::asm;
 
-use outside::images::{fill_active, image, some_addresses};
+use outside::images::{fill_active, image_of, some_addresses};
 use outside::page::*;
 use outside::rng::Rng;
 use outside::rules::*;
@@ -35,24 +35,28 @@ type Function = unsafe extern "C" fn();
 
 const NAMES: [&str; 7] = ["format", "recovery", "write", "group write", "read", "blank read", "lookup"];
 
+/// What follows pointer and length in a call: the page size first.
+type Rest = [u64; 4];
+
 /// The exports, each with what follows pointer and length in its call.
-fn calls(setting: Setting, group: &[u8]) -> [(Function, [u64; 3]); 7] {
+fn calls(chip: Chip, setting: Setting, group: &[u8]) -> [(Function, Rest); 7] {
     let (address, value, all) = (u64::from(setting.0), u64::from(setting.1), u64::from(u16::MAX));
     let (group, group_length) = (group.as_ptr() as u64, group.len() as u64);
+    let size = u64::from(chip.page_size());
     [
-        (istrovell_format, [1, 0, 0]),
-        (istrovell_recover, [all, 0, 0]),
-        (istrovell_write, [address, value, all]),
-        (istrovell_write_group, [group, group_length, all]),
-        (istrovell_read, [address, 0, 0]),
-        (istrovell_blank_read, [address, 0, 0]),
-        (istrovell_lookup, [0; 3]),
+        (istrovell_format, [size, 1, 0, 0]),
+        (istrovell_recover, [size, all, 0, 0]),
+        (istrovell_write, [size, address, value, all]),
+        (istrovell_write_group, [size, group, group_length, all]),
+        (istrovell_read, [size, address, 0, 0]),
+        (istrovell_blank_read, [size, address, 0, 0]),
+        (istrovell_lookup, [size, 0, 0, 0]),
     ]
 }
 
 /// Eight settings that change something: of held addresses, and of others if there are fewer.
-fn eight_settings(image: &[u8]) -> Vec<Setting> {
-    let held = if test_store(image).is_ok() { held(image) } else { Default::default() };
+fn eight_settings(image: &[u8], chip: Chip) -> Vec<Setting> {
+    let held = if test_store(image, chip).is_ok() { held(image, chip) } else { Default::default() };
     let others = (0..).filter(|address| !held.contains_key(address)).map(|address| (address, 1));
     let changed = held.iter().map(|(&address, value)| (address, value.wrapping_add(1)));
     changed.chain(others).take(MOST_IN_A_GROUP).collect()
@@ -61,10 +65,10 @@ fn eight_settings(image: &[u8]) -> Vec<Setting> {
 /// Calls the function on the stack that ends at `top`; gives the answer's register.
 ///
 /// # Safety
-/// The function takes pointer, length and at most three more words, a group's pointer and length among them, which live
+/// The function takes pointer, length and at most four more words, a group's pointer and length among them, which live
 /// through the call; it answers in one register; the stack is large, aligned to 16, and for this call alone.
 #[cfg(target_arch = "x86_64")]
-unsafe fn call_at(top: *mut u128, function: Function, image: &mut [u8], rest: [u64; 3]) -> u64 {
+unsafe fn call_at(top: *mut u128, function: Function, image: &mut [u8], rest: Rest) -> u64 {
     let answer: u64;
     asm!(
         "mov r12, rsp",
@@ -78,6 +82,7 @@ unsafe fn call_at(top: *mut u128, function: Function, image: &mut [u8], rest: [u
         in("rdx") rest[0],
         in("rcx") rest[1],
         in("r8") rest[2],
+        in("r9") rest[3],
         lateout("rax") answer,
         out("r12") _,
         clobber_abi("C"),
@@ -86,7 +91,7 @@ unsafe fn call_at(top: *mut u128, function: Function, image: &mut [u8], rest: [u
 }
 
 #[cfg(target_arch = "aarch64")]
-unsafe fn call_at(top: *mut u128, function: Function, image: &mut [u8], rest: [u64; 3]) -> u64 {
+unsafe fn call_at(top: *mut u128, function: Function, image: &mut [u8], rest: Rest) -> u64 {
     let answer: u64;
     asm!(
         "mov x20, sp",
@@ -100,6 +105,7 @@ unsafe fn call_at(top: *mut u128, function: Function, image: &mut [u8], rest: [u
         in("x2") rest[0],
         in("x3") rest[1],
         in("x4") rest[2],
+        in("x5") rest[3],
         lateout("x0") answer,
         out("x20") _,
         clobber_abi("C"),
@@ -108,7 +114,7 @@ unsafe fn call_at(top: *mut u128, function: Function, image: &mut [u8], rest: [u
 }
 
 /// The answer's first byte, its number, and the stack used; on x86-64 the return address is part of it.
-fn call_on(stack: &mut [u128], paint: u8, function: Function, image: &mut [u8], rest: [u64; 3]) -> (u8, usize) {
+fn call_on(stack: &mut [u128], paint: u8, function: Function, image: &mut [u8], rest: Rest) -> (u8, usize) {
     let bytes = std::mem::size_of_val(stack);
     stack.fill(u128::from_ne_bytes([paint; 16]));
     // SAFETY: the exports, and `deep`, are such functions; `image` lives through the call, and the stack is ours.
@@ -119,7 +125,7 @@ fn call_on(stack: &mut [u128], paint: u8, function: Function, image: &mut [u8], 
 }
 
 /// The stack that the call uses on this image.
-fn used(stack: &mut [u128], function: Function, image: &[u8], rest: [u64; 3]) -> (u8, usize) {
+fn used(stack: &mut [u128], function: Function, image: &[u8], rest: Rest) -> (u8, usize) {
     let measured = PAINTS.map(|paint| call_on(stack, paint, function, &mut image.to_vec(), rest));
     assert_eq!(measured[0].0, measured[1].0);
     (measured[0].0, measured[0].1.max(measured[1].1))
@@ -129,29 +135,31 @@ fn painted_stack() -> Vec<u128> {
     vec![0; STACK_BYTES / 16]
 }
 
-/// Images of this many pages: the first of the seeds that have it, and a store before each kind of write.
-fn images_of(pages: usize, count: usize) -> Vec<Vec<u8>> {
-    let is_of = |image: &Vec<u8>| image.len() == pages * PAGE_BYTES;
-    let mut images: Vec<Vec<u8>> = (0..).map(image).filter(is_of).take(count).collect();
-    images.extend(EDITIONS.into_iter().flat_map(|edition| full_stores(pages, edition)));
+/// Images of this many pages of the chip: the first of the seeds that have it, and a store before each kind of write.
+fn images_of(chip: Chip, pages: usize, count: usize) -> Vec<Vec<u8>> {
+    let is_of = |image: &Vec<u8>| image.len() == pages * chip.page_bytes;
+    let mut images: Vec<Vec<u8>> = (0..).map(|seed| image_of(chip, seed)).filter(is_of).take(count).collect();
+    images.extend(chip.editions.iter().flat_map(|&edition| full_stores(pages, edition)));
     images
 }
 
 /// A store of 192 addresses with one page used and full, and so on to all but one: the last write moves.
 fn full_stores(pages: usize, edition: Edition) -> Vec<Vec<u8>> {
+    let chip = Chip::of(edition);
+    let size = chip.page_size();
     let mut rng = Rng::new(pages as u64);
     let addresses = some_addresses(&mut rng, MOST_HELD);
-    let mut image = vec![0; pages * PAGE_BYTES];
-    format(&mut image, edition);
+    let mut image = vec![0; pages * chip.page_bytes];
+    format(&mut image, size, edition == Edition::Second);
     for &address in &addresses {
-        assert!(write(&mut image, address, rng.byte(), u16::MAX).finished);
+        assert!(write(&mut image, size, address, rng.byte(), u16::MAX).finished);
     }
     let mut images = Vec::new();
     for _ in 1..pages {
-        fill_active(&mut image, SLOTS, &addresses, &mut rng);
+        fill_active(&mut image, chip, chip.slots(), &addresses, &mut rng);
         images.push(image.clone());
-        let value = read(&image, addresses[0]).value.wrapping_add(1);
-        assert!(write(&mut image, addresses[0], value, u16::MAX).finished);
+        let value = read(&image, size, addresses[0]).value.wrapping_add(1);
+        assert!(write(&mut image, size, addresses[0], value, u16::MAX).finished);
     }
     images
 }
@@ -159,32 +167,37 @@ fn full_stores(pages: usize, edition: Edition) -> Vec<Vec<u8>> {
 #[test]
 fn each_call_uses_at_most_4_kb() {
     let mut stack = painted_stack();
-    for (pages, count) in [(2, 300), (32, 40)] {
+    for (chip, pages, count) in [(SMALLER, 2, 300), (SMALLER, 32, 40), (LARGER, 2, 200), (LARGER, 32, 20)] {
+        let size = chip.page_size();
         let mut most = [0; 7];
         let mut numbers = [[false; 10]; 7];
-        for image in images_of(pages, count) {
-            let settings = eight_settings(&image);
+        for image in images_of(chip, pages, count) {
+            let settings = eight_settings(&image, chip);
             let group = group_bytes(&settings);
-            for (index, (function, rest)) in calls(settings[0], &group).into_iter().enumerate() {
+            for (index, (function, rest)) in calls(chip, settings[0], &group).into_iter().enumerate() {
                 let (number, depth) = used(&mut stack, function, &image, rest);
-                assert!(depth <= MOST_STACK, "{} at {pages} pages used {depth} bytes of stack", NAMES[index]);
+                assert!(depth <= MOST_STACK, "{} at {pages} pages of {size} used {depth} bytes of stack", NAMES[index]);
                 most[index] = depth.max(most[index]);
                 numbers[index][usize::from(number)] = true;
             }
         }
         assert!(numbers.iter().all(|numbers| numbers[usize::from(OK)]), "a call was never accepted");
-        assert!(numbers[3][usize::from(DAMAGED)] && numbers[3][usize::from(UNCLEAN)] && numbers[3][usize::from(GROUP)]);
-        println!("bytes of stack at {pages} pages: {:?}", NAMES.iter().zip(most).collect::<Vec<_>>());
+        assert!(numbers[3][usize::from(DAMAGED)] && numbers[3][usize::from(UNCLEAN)]);
+        assert!(chip == LARGER || numbers[3][usize::from(GROUP)]);
+        println!("bytes of stack at {pages} pages of {size}: {:?}", NAMES.iter().zip(most).collect::<Vec<_>>());
     }
 }
 
 /// Moves at 32 pages are among the images: the longest calls there are, the group write's as long as the write's.
 #[test]
 fn the_longest_writes_are_measured() {
-    let image = full_stores(32, Edition::Second).pop().unwrap();
-    let settings = eight_settings(&image);
-    for change in [Change::Single(settings[0]), Change::Group(settings)] {
-        assert_eq!(change_steps(&image, &change).unwrap().len(), 481);
+    for edition in [Edition::Second, Edition::Third] {
+        let chip = Chip::of(edition);
+        let image = full_stores(32, edition).pop().unwrap();
+        let settings = eight_settings(&image, chip);
+        for change in [Change::Single(settings[0]), Change::Group(settings)] {
+            assert_eq!(change_steps(&image, chip, &change).unwrap().len(), 481);
+        }
     }
 }
 
@@ -195,6 +208,6 @@ unsafe extern "C" fn deep() {
 
 #[test]
 fn a_deep_call_is_felt() {
-    let (_, depth) = used(&mut painted_stack(), deep, &[], [0; 3]);
+    let (_, depth) = used(&mut painted_stack(), deep, &[], [0; 4]);
     assert!(depth > 2 * MOST_STACK, "{depth}");
 }

@@ -107,6 +107,15 @@ def two_editions():
     return cleared() + used + plain(1, [record(5, 1), SPOILED]) + second(cleared())
 
 
+def larger(slots):
+    """Two pages of 2,048 bytes, the first with these slots: the listing takes them for four of 1,024."""
+    used = b"".join([checked(1, 0, 3), number(1), BLANK] + slots).ljust(2048, b"\xff")
+    return used + checked(1, 0, 3).ljust(2048, b"\xff")
+
+
+# Behind 253 slots the records of 1 and then 0 at address 1 stand where page 1 of 1,024 bytes has its header.
+PASSING = [record(5, k % 256) for k in range(253)] + [record(1, 1), record(1, 0), record(7, 7), record(9, 9)]
+
 IMAGES = {
     "example_12": EXAMPLE_12,
     "power_cut": EXAMPLE_12[:24] + record(7, 201)[:2] + EXAMPLE_12[26:],
@@ -132,6 +141,8 @@ IMAGES = {
     "two_editions": two_editions(),
     "held_192_beside_an_open_group": second(plain(0, [record(k, k) for k in range(192)] + row("o1 a", 192)) + cleared()),
     "damaged_193_by_a_group": second(plain(0, [record(k, k) for k in range(192)] + row("o1 a c1", 192)) + cleared()),
+    "larger_chip": larger([record(5, 65)]),
+    "larger_chip_passing_for_a_store": larger(PASSING),
     "damaged_193_in_edition_1": plain(0, [record(k, k) for k in range(192)] + row("o1 a", 192)) + cleared(),
 }
 

@@ -2,7 +2,7 @@
 
 use std::slice::{from_raw_parts, from_raw_parts_mut};
 
-use outside::{Edition, Store};
+use outside::Store;
 
 #[repr(C)]
 pub struct Stepped {
@@ -35,16 +35,15 @@ fn reading(answer: outside::Reading) -> Reading {
 /// # Safety
 /// Here and below: `image` points to `length` bytes that live through the call and are lent to it alone.
 #[no_mangle]
-pub unsafe extern "C" fn istrovell_format(image: *mut u8, length: usize, second_edition: bool) -> u8 {
-    let edition = if second_edition { Edition::Second } else { Edition::First };
-    outside::Second.format(from_raw_parts_mut(image, length), edition)
+pub unsafe extern "C" fn istrovell_format(image: *mut u8, length: usize, page_size: u16, second_edition: bool) -> u8 {
+    outside::Second.format(from_raw_parts_mut(image, length), page_size, second_edition)
 }
 
 /// # Safety
 /// As `istrovell_format`.
 #[no_mangle]
-pub unsafe extern "C" fn istrovell_recover(image: *mut u8, length: usize, allowance: u16) -> Stepped {
-    stepped(outside::Second.recover(from_raw_parts_mut(image, length), allowance))
+pub unsafe extern "C" fn istrovell_recover(image: *mut u8, length: usize, page_size: u16, allowance: u16) -> Stepped {
+    stepped(outside::Second.recover(from_raw_parts_mut(image, length), page_size, allowance))
 }
 
 /// # Safety
@@ -53,11 +52,12 @@ pub unsafe extern "C" fn istrovell_recover(image: *mut u8, length: usize, allowa
 pub unsafe extern "C" fn istrovell_write(
     image: *mut u8,
     length: usize,
+    page_size: u16,
     address: u16,
     value: u8,
     allowance: u16,
 ) -> Stepped {
-    stepped(outside::Second.write(from_raw_parts_mut(image, length), address, value, allowance))
+    stepped(outside::Second.write(from_raw_parts_mut(image, length), page_size, address, value, allowance))
 }
 
 /// # Safety
@@ -66,32 +66,38 @@ pub unsafe extern "C" fn istrovell_write(
 pub unsafe extern "C" fn istrovell_write_group(
     image: *mut u8,
     length: usize,
+    page_size: u16,
     group: *const u8,
     group_length: usize,
     allowance: u16,
 ) -> Stepped {
     let group = from_raw_parts(group, group_length);
-    stepped(outside::Second.write_group(from_raw_parts_mut(image, length), group, allowance))
+    stepped(outside::Second.write_group(from_raw_parts_mut(image, length), page_size, group, allowance))
 }
 
 /// # Safety
 /// As `istrovell_format`.
 #[no_mangle]
-pub unsafe extern "C" fn istrovell_read(image: *const u8, length: usize, address: u16) -> Reading {
-    reading(outside::Second.read(from_raw_parts(image, length), address))
+pub unsafe extern "C" fn istrovell_read(image: *const u8, length: usize, page_size: u16, address: u16) -> Reading {
+    reading(outside::Second.read(from_raw_parts(image, length), page_size, address))
 }
 
 /// # Safety
 /// As `istrovell_format`.
 #[no_mangle]
-pub unsafe extern "C" fn istrovell_blank_read(image: *const u8, length: usize, address: u16) -> Reading {
-    reading(outside::Second.blank_read(from_raw_parts(image, length), address))
+pub unsafe extern "C" fn istrovell_blank_read(
+    image: *const u8,
+    length: usize,
+    page_size: u16,
+    address: u16,
+) -> Reading {
+    reading(outside::Second.blank_read(from_raw_parts(image, length), page_size, address))
 }
 
 /// # Safety
 /// As `istrovell_format`.
 #[no_mangle]
-pub unsafe extern "C" fn istrovell_lookup(image: *const u8, length: usize) -> Pairing {
-    let answer = outside::Second.lookup(from_raw_parts(image, length));
+pub unsafe extern "C" fn istrovell_lookup(image: *const u8, length: usize, page_size: u16) -> Pairing {
+    let answer = outside::Second.lookup(from_raw_parts(image, length), page_size);
     Pairing { number: answer.number, paired: answer.paired, digits: answer.digits }
 }

@@ -8,11 +8,12 @@ use lib.Dec.{T, eqb}
 use Rattle.rules.specs.Flash.{Step, program, erase, bytes-at}
 use Rattle.rules.specs.Word.{Word, word, Condition, Sound, Blank, HalfWritten, Spoiled, condition, wear-word, opening-word, done-word, record-word}
 use Rattle.rules.specs.Word.{mark-word, Slot, recorded, opens, closes, neither, slot}
-use Rattle.rules.specs.Page.{Form, in-edition, blank-word, State, cleared, open₁, open₂, receiving, bad, Page}
+use Rattle.rules.specs.Page.{Form, size, in-edition, blank-word, State, cleared, open₁, open₂, receiving, bad, Page}
 use Rattle.rules.specs.Store.{Setting, setting, address-of, settings, held}
 use Rattle.rules.specs.Steps.{recovery-steps, Change, single}
 use Rattle.rules.specs.Listing.{half, spoiled}
-use Rattle.rules.specs.Call.{this-chip, form-of, pages, is-unclean, Stepped, Reading, Pairing, format, group-of, recover, write, read, blank-read, lookup}
+use Rattle.rules.specs.Call.{form-of, pages, is-unclean, Stepped, Reading, Pairing, format, group-of, recover, write, read, blank-read, lookup}
+use Rattle.rules.specs.Named.{smaller-chip, larger-chip, format-at, recover-at, write-at, read-at, blank-read-at, lookup-at}
 
 -- a row: what the rules give, and what section X prints
 pub data Row : Type 0 where
@@ -125,22 +126,25 @@ store-with ws = page-of 2 ws (open₁ 0) ∷ page-of 2 [] (cleared 1) ∷ []
 unfoldable pub stands : List Word → List ℕ
 stands ws = yes-no (is-unclean (store-with ws)) ∷ map address-of (settings (store-with ws))
 
--- the forms of the two editions
+-- the forms of the three editions
 abbrev pub form₁ : Form
-form₁ = in-edition this-chip 1
+form₁ = in-edition smaller-chip 1
 
 abbrev pub form₂ : Form
-form₂ = in-edition this-chip 2
+form₂ = in-edition smaller-chip 2
+
+abbrev pub form₃ : Form
+form₃ = in-edition larger-chip 3
 
 -- bytes of 255
 abbrev pub empty-flash : ℕ → List ℕ
 empty-flash n = replicate n 0xFF
 
--- the numbers that all calls give, as a call of each on an image
-unfoldable pub numbers : List ℕ → List ℕ
-numbers i =
-    format form₁ i .number ∷ recover form₁ 65535 i .number ∷ write form₁ (single 0 0) 65535 i .number
-    ∷ read form₁ 0 i .number ∷ blank-read form₁ 0 i .number ∷ lookup form₁ i .number ∷ []
+-- the numbers that all calls give, as a call of each on an image, at a page size
+unfoldable pub numbers : (page-size : ℕ) → List ℕ → List ℕ
+numbers P i =
+    format-at P false i .number ∷ recover-at P 65535 i .number ∷ write-at P (single 0 0) 65535 i .number
+    ∷ read-at P 0 i .number ∷ blank-read-at P 0 i .number ∷ lookup-at P i .number ∷ []
 
 -- finished writes, one after the other
 unfoldable pub written : List Setting → List ℕ → List ℕ
@@ -166,14 +170,18 @@ nine = 0 ∷ 0 ∷ 1 ∷ 1 ∷ 0 ∷ 1 ∷ 2 ∷ 0 ∷ 1 ∷ 3 ∷ 0 ∷ 1 ∷ 4
 
 -- the edition of an image, and an image whose page 1 is of the first edition
 abbrev pub edition-in : List ℕ → ℕ
-edition-in i = form-of this-chip i .edition
+edition-in i = form-of smaller-chip i .edition
 
 abbrev pub mixed : (two-pages second : List ℕ) → List ℕ
 mixed two-pages second = take 1024 second ++ drop 1024 two-pages
 
--- the rows; two-pages is the image of two formatted pages, second that of two of the second edition
-unfoldable pub rows : (two-pages second : List ℕ) → List Row
-rows two-pages second =
+-- the image with these four bytes at an offset
+unfoldable pub with-word : (offset : ℕ) → Word → List ℕ → List ℕ
+with-word n w i = take n i ++ (bytes w ++ drop (n + 4) i)
+
+-- the rows; two-pages is the image of two formatted pages, second that of two of the second edition, third that of two of 2,048 bytes
+unfoldable pub rows : (two-pages second third : List ℕ) → List Row
+rows two-pages second third =
     -- 1. Record (5, 65)
     row (bytes (record-word 5 65)) (0x05 ∷ 0x00 ∷ 0x41 ∷ 0x14 ∷ [])
     ∷ row (told (condition (word 0x05 0x00 0x41 0x14))) SOUND
@@ -205,12 +213,12 @@ rows two-pages second =
     ∷ row (kind (slot 1 (word 0xFF 0xFF 0x84 0x06))) SPOILED
     ∷ row (kind (slot 1 (word 0xFF 0xFF 0x00 0x08))) SPOILED
     -- 6. Lengths that are SIZE, at every call
-    ∷ row (numbers (empty-flash 0)) (1 ∷ 1 ∷ 1 ∷ 1 ∷ 1 ∷ 1 ∷ [])
-    ∷ row (numbers (empty-flash 1024)) (1 ∷ 1 ∷ 1 ∷ 1 ∷ 1 ∷ 1 ∷ [])
-    ∷ row (numbers (empty-flash 2049)) (1 ∷ 1 ∷ 1 ∷ 1 ∷ 1 ∷ 1 ∷ [])
-    ∷ row (numbers (empty-flash 33792)) (1 ∷ 1 ∷ 1 ∷ 1 ∷ 1 ∷ 1 ∷ [])
+    ∷ row (numbers 1024 (empty-flash 0)) (1 ∷ 1 ∷ 1 ∷ 1 ∷ 1 ∷ 1 ∷ [])
+    ∷ row (numbers 1024 (empty-flash 1024)) (1 ∷ 1 ∷ 1 ∷ 1 ∷ 1 ∷ 1 ∷ [])
+    ∷ row (numbers 1024 (empty-flash 2049)) (1 ∷ 1 ∷ 1 ∷ 1 ∷ 1 ∷ 1 ∷ [])
+    ∷ row (numbers 1024 (empty-flash 33792)) (1 ∷ 1 ∷ 1 ∷ 1 ∷ 1 ∷ 1 ∷ [])
     -- 7. 2,048 bytes of 255: NO STORE, but to format. Formatted two pages, read 0: NOT HELD; blank read 0.
-    ∷ row (numbers (empty-flash 2048)) (0 ∷ 2 ∷ 2 ∷ 2 ∷ 2 ∷ 2 ∷ [])
+    ∷ row (numbers 1024 (empty-flash 2048)) (0 ∷ 2 ∷ 2 ∷ 2 ∷ 2 ∷ 2 ∷ [])
     ∷ row (said (read form₁ 0 two-pages)) (8 ∷ 0 ∷ [])
     ∷ row (said (blank-read form₁ 0 two-pages)) (0 ∷ 0 ∷ [])
     -- 8. Write (5, 65), allowance 1: 1 step, unfinished, 5 not held. Allowance 2 instead: finished, 65.
@@ -276,10 +284,30 @@ rows two-pages second =
     ∷ row (map edition-in (two-pages ∷ second ∷ mixed two-pages second ∷ [])) (1 ∷ 2 ∷ 2 ∷ [])
     ∷ row (grouped form₂ (5 ∷ 0 ∷ 1 ∷ []) (mixed two-pages second)) (4 ∷ 0 ∷ 0 ∷ [])
     ∷ row (said (read form₂ 5 (mixed two-pages second))) (8 ∷ 0 ∷ [])
+    -- X14. The larger chip: a page has 2,048 bytes; wear 1; a mark that opens 4
+    ∷ row (map size (form₁ ∷ form₂ ∷ form₃ ∷ [])) (1024 ∷ 1024 ∷ 2048 ∷ [])
+    ∷ row (bytes (wear-word 3 1)) (0x01 ∷ 0x00 ∷ 0x03 ∷ 0x15 ∷ [])
+    ∷ row (kind (slot 3 (word 0xFF 0xFF 0x04 0x07))) (OPENS 4)
+    -- page sizes, and lengths, that are SIZE at every call; 4,096 bytes of 255 at either size: NO STORE, but to format
+    ∷ row (numbers 0 (empty-flash 2048)) (1 ∷ 1 ∷ 1 ∷ 1 ∷ 1 ∷ 1 ∷ [])
+    ∷ row (numbers 4096 (empty-flash 8192)) (1 ∷ 1 ∷ 1 ∷ 1 ∷ 1 ∷ 1 ∷ [])
+    ∷ row (numbers 2048 (empty-flash 2048)) (1 ∷ 1 ∷ 1 ∷ 1 ∷ 1 ∷ 1 ∷ [])
+    ∷ row (numbers 2048 (empty-flash 5120)) (1 ∷ 1 ∷ 1 ∷ 1 ∷ 1 ∷ 1 ∷ [])
+    ∷ row (numbers 2048 (empty-flash 4096)) (0 ∷ 2 ∷ 2 ∷ 2 ∷ 2 ∷ 2 ∷ [])
+    ∷ row (numbers 1024 (empty-flash 4096)) (0 ∷ 2 ∷ 2 ∷ 2 ∷ 2 ∷ 2 ∷ [])
+    -- a group of 1 at 5: 6 steps, and the record stands in slot 1; in the last slot, 508, at byte 2,044, a record is found too
+    ∷ row (did (write-at 2048 (group-of (5 ∷ 0 ∷ 65 ∷ [])) 65535 third)) (0 ∷ 6 ∷ 1 ∷ [])
+    ∷ row (bytes-at 16 4 (write-at 2048 (group-of (5 ∷ 0 ∷ 65 ∷ [])) 65535 third .image)) (0x05 ∷ 0x00 ∷ 0x41 ∷ 0x14 ∷ [])
+    ∷ row (said (read-at 2048 5 (with-word 2044 A third))) (0 ∷ 65 ∷ [])
+    -- At 1,024 its pages are bad: NO STORE. With the records (1, 1) and (1, 0) in the slots 253 and 254, which pass for the header of an
+    -- open page there, 5 is NOT HELD at 1,024, and 1 is 0 at 2,048.
+    ∷ row (said (read-at 1024 5 third)) (2 ∷ 0 ∷ [])
+    ∷ row (said (read-at 1024 5 (with-word 1028 (record-word 1 0) (with-word 1024 (record-word 1 1) third)))) (8 ∷ 0 ∷ [])
+    ∷ row (said (read-at 2048 1 (with-word 1028 (record-word 1 0) (with-word 1024 (record-word 1 1) third)))) (0 ∷ 0 ∷ [])
     ∷ []
 
 unfoldable pub table : List Row
-table = rows (format form₁ (empty-flash 2048) .image) (format form₂ (empty-flash 2048) .image)
+table = rows (format form₁ (empty-flash 2048) .image) (format form₂ (empty-flash 2048) .image) (format form₃ (empty-flash 4096) .image)
 
 -- the statement: every row is as section X prints it
 abbrev pub the-examples-hold : Type 0

@@ -1,32 +1,35 @@
 -- The three demands hold of the exported calls. Assumes nothing.
-use Prim.Native.Nat.{ℕ}
+use Prim.Native.Nat.{ℕ, _+_, _*_}
 use mathlib.Core.Path.{_≡_, refl, sym, ap, ap₂, _∙_}
 use mathlib.Core.Bool.{Bool, true, false, cond}
 use mathlib.Core.List.{List, [], _∷_}
+use mathlib.Core.Option.{Option, none, some, Option·some-injective}
 use native.Mathlib.Omega.{arith}
 use lib.ListN.{length, getD, take}
 use lib.Dec.{eqb, leb}
-use borrow.Author.Tests.{eqb-true, eqb-false}
+use borrow.Author.Tests.{eqb-true, eqb-false, le-leb}
 use Rattle.rules.specs.Flash.{Step, run}
-use Rattle.rules.specs.Page.{Form, size, in-edition}
-use Rattle.rules.specs.Call.{this-chip, has-edition, page-count, wrong-size, store-number, write-number, read-number, blank-read-number, OK}
+use Rattle.rules.specs.Page.{Form, size, Chip, in-edition}
 use Rattle.rules.specs.Store.{Setting, setting, value, or-value}
-use Rattle.rules.specs.Steps.{Change, single, group, settings-of}
+use Rattle.rules.specs.Steps.{format-steps, Change, single, group, settings-of}
+use Rattle.rules.specs.Call.{RoomyChip, form-of, has-edition, page-count, wrong-size, store-number, write-number, read-number, blank-read-number, OK}
 use Rattle.rules.specs.Call.{SIZE, Stepped, Reading, Pairing, Formatted, format, group-of, stepped, recover, write, pages, read, blank-value, blank-read}
-use Rattle.rules.specs.Call.{reading, code, pairing, lookup}
-use Rattle.rules.proofs.Truth.{by-cases}
+use Rattle.rules.specs.Call.{refused-steps, refused-reading, refused-lookup, reading, code, pairing, lookup}
+use Rattle.rules.specs.Named.{chip-of, on-chip, told-form, write-at, read-at, blank-read-at, lookup-at, number-at}
+use Rattle.rules.proofs.Truth.{by-cases, and-both}
 use Rattle.rules.proofs.Answers.{not-accepted, format-refused, format-done, stepped-refused, stepped-done, lookup-refused, lookup-done}
+use Rattle.rules.proofs.Named.{named-roomy, format-named, recover-named, write-named, read-named, blank-read-named, lookup-named}
+use Rattle.rules.proofs.Lengths.{format-long}
 use Rattle.promise.specs.Calls.{Question, value-at, blank-value-at, pairing-code, Answer, finds, EachOf, answer, Obeys}
 use Rattle.promise.specs.History.{recovery-of, write-of}
 use Rattle.promise.proofs.Kept.{called-number, kept}
-use Rattle.rules.proofs.Lengths.{format-long}
 use Rattle.promise.proofs.Counts.{not-longer}
 use Rattle.reading.specs.declared.Reading.{Reading as Read}
 use Rattle.reading.specs.declared.Pairing.{Pairing as Pair}
 use Rattle.reading.specs.Answers.{as-reading, as-pairing}
 use Rattle.writing.specs.declared.Stepped.{Stepped as Done}
 use Rattle.writing.specs.Answers.{as-stepped}
-use Rattle.istrovell.specs.Demands.{edition-told, told-form, its-form, Formats, LooksUp, Reads, Unchanged, Gives, Did, wrote, replies, exported}
+use Rattle.istrovell.specs.Demands.{Formats, Reads, Unchanged, Gives, Did, formatted, wrote, replies, all-naming}
 use Rattle.istrovell.specs.Demands.{every-call-answers-by-number}
 use Rattle.istrovell.specs.Demands.{only-one-outcome, every-step-follows-the-rules, a-store-keeps-its-word, every-question-is-answered}
 
@@ -47,6 +50,11 @@ module _ (number n : ℕ) (ss : List Step) (i : List ℕ) (r : Done) (j : List �
       let e = h ∙ stepped-done fm number n ss i (sym its-number ∙ ok) in
       (ap (λ (s : Stepped). s .image) e, ap (λ (s : Stepped). s .steps) e, ap (λ (s : Stepped). s .finished) e)
 
+-- ---- format: its number and its image, as one
+
+as-formatted : {r : ℕ} {j : List ℕ} {f : Formatted} → (r ≡ f .number) × (j ≡ f .image) → record { number = r; image = j } ≡ f
+as-formatted h = ap₂ (λ (n : ℕ) (k : List ℕ). record { number = n; image = k }) (h .0) (h .1)
+
 -- ---- read and blank read: an answer with a value
 
 read-so : (n v : ℕ) (r : Read) → as-reading r ≡ reading n v → (r .number ≡ n) × ((r .number ≡ OK → ⊥) → r .value ≡ 0)
@@ -57,51 +65,77 @@ read-so n v r h =
 
 -- ---- demand 1
 
-module _ (i : List ℕ) where
-  format-number : (second : Bool) (r : ℕ) (j : List ℕ) → Formats second i r j
-      → (r ≡ cond (wrong-size (told-form second) i) SIZE OK) × ((r ≡ OK → ⊥) → j ≡ i)
-  format-number second r j h =
-      let fm = told-form second in
-      by-cases (wrong-size fm i)
-      (λ t. let e = format-refused fm i t in (rw t (h .0 ∙ ap (λ (f : Formatted). f .number) e), λ ne. h .1 ∙ ap (λ (f : Formatted). f .image) e))
-      (λ t. let e = format-done fm i t in
-      (rw t (h .0 ∙ ap (λ (f : Formatted). f .number) e), λ ne. absurd (ne (h .0 ∙ ap (λ (f : Formatted). f .number) e))))
+-- what is so of a call on each chip, and of one that is refused as SIZE, is so at a page size
+at-chip : {A : Type 0} (G : ℕ → Type 0) (o : Option Chip) {x refused : A} {call : Chip → A} {table : Chip → ℕ} → (x ≡ refused → G SIZE)
+    → ((c : Chip) → x ≡ call c → G (table c)) → x ≡ on-chip o refused call → G (on-chip o SIZE table)
+unfolding on-chip
+at-chip G none no′ on h = no′ h
+at-chip G (some c) no′ on h = on c h
 
-  look-number : (r : Pair) → LooksUp i r → (r .number ≡ store-number (its-form i) i) × ((r .number ≡ OK → ⊥)
-      → as-pairing r ≡ record { number = r .number; paired = false; digits = 0 ∷ 0 ∷ 0 ∷ 0 ∷ [] })
+module _ (i : List ℕ) where
+  format-number : (fm : Form) (f : Formatted) → f ≡ format fm i → (f .number ≡ cond (wrong-size fm i) SIZE OK) × ((f .number ≡ OK → ⊥) → f .image ≡ i)
+  format-number fm f h =
+      by-cases (wrong-size fm i)
+      (λ t. let e = h ∙ format-refused fm i t in (rw t (ap (λ (x : Formatted). x .number) e), λ ne. ap (λ (x : Formatted). x .image) e))
+      (λ t. let e = ap (λ (x : Formatted). x .number) (h ∙ format-done fm i t) in (rw t e, λ ne. absurd (ne e)))
+
+  look-number : (fm : Form) (r : Pair) → as-pairing r ≡ lookup fm i
+      → (r .number ≡ store-number fm i) × ((r .number ≡ OK → ⊥) → as-pairing r ≡ refused-lookup (r .number))
   unfolding pairing
-  look-number r h =
-      let fm = its-form i in
+  look-number fm r h =
       let e : r .number ≡ store-number fm i =
       by-cases (eqb (store-number fm i) 0)
       (λ t. let z = eqb-true (store-number fm i) 0 t in ap (λ (q : Pairing). q .number) (h ∙ lookup-done fm i z) ∙ sym z)
       (λ t. ap (λ (q : Pairing). q .number) (h ∙ lookup-refused fm i (eqb-false (store-number fm i) 0 t))) in
       (e, λ ne. h ∙ lookup-refused fm i (λ z. ne (e ∙ z)) ∙ rw e)
 
+  -- refused as SIZE
+  no-steps : (r : Done) (j : List ℕ) → as-stepped r j ≡ refused-steps SIZE i → (r .number ≡ SIZE) × Unchanged i r j
+  no-steps r j h = (
+    ap (λ (s : Stepped). s .number) h,
+    λ ne. (ap (λ (s : Stepped). s .image) h, ap (λ (s : Stepped). s .steps) h, ap (λ (s : Stepped). s .finished) h),
+  )
+
+  no-value : (r : Read) → as-reading r ≡ refused-reading SIZE → (r .number ≡ SIZE) × ((r .number ≡ OK → ⊥) → r .value ≡ 0)
+  no-value r h = (ap (λ (q : Reading). q .number) h, λ ne. ap (λ (q : Reading). q .value) h)
+
+  no-code : (r : Pair) → as-pairing r ≡ refused-lookup SIZE → (r .number ≡ SIZE) × ((r .number ≡ OK → ⊥) → as-pairing r ≡ refused-lookup (r .number))
+  no-code r h = let e = ap (λ (q : Pairing). q .number) h in (e, λ ne. h ∙ ap refused-lookup (sym e))
+
   -- of a single setting or of a group
-  write-number-is : (c : Change) (n : ℕ) (r : Done) (j : List ℕ) → as-stepped r j ≡ write (its-form i) c n i
-      → (r .number ≡ write-number (its-form i) c i) × Unchanged i r j
+  write-number-is : (P : ℕ) (c : Change) (n : ℕ) (r : Done) (j : List ℕ) → as-stepped r j ≡ write-at P c n i
+      → (r .number ≡ number-at P (λ f. write-number f c) i) × Unchanged i r j
   unfolding write
-  write-number-is c n r j h =
-      let ss = write-of (its-form i) c i in
-      let number = write-number (its-form i) c i in
-      (its-number number n ss i r j (its-form i) h, its-refusal number n ss i r j (its-form i) h)
+  write-number-is P c n r j =
+      at-chip (λ k. (r .number ≡ k) × Unchanged i r j) (chip-of P) (no-steps r j)
+      (λ chip h.
+      let fm = form-of chip i in
+      (its-number (write-number fm c i) n (write-of fm c i) i r j fm h, its-refusal (write-number fm c i) n (write-of fm c i) i r j fm h))
 
 pub answers-by-number : every-call-answers-by-number
 unfolding recover read blank-read
-answers-by-number i =
-    let fm = its-form i in
+answers-by-number P i =
     record {
-      formats = format-number i;
-      recovers = λ n r j h. (
-        its-number (store-number fm i) n (recovery-of fm i) i r j fm h,
-        its-refusal (store-number fm i) n (recovery-of fm i) i r j fm h,
-      );
-      writes = λ a v n r j h. write-number-is i (single a v) n r j h;
-      writes-group = λ b n r j h. write-number-is i (group-of b) n r j h;
-      reads = λ a r h. read-so (read-number fm a i) (or-value (value a (pages fm i)) 0) r h;
-      blank-reads = λ a r h. read-so (blank-read-number fm a i) (blank-value (value a (pages fm i))) r h;
-      looks = look-number i;
+      formats = λ second r j h.
+          at-chip (λ k. (r ≡ k) × ((r ≡ OK → ⊥) → j ≡ i)) (chip-of P)
+          (λ e. (ap (λ (f : Formatted). f .number) e, λ ne. ap (λ (f : Formatted). f .image) e))
+          (λ chip e. format-number i (told-form chip second) (record { number = r; image = j }) e) (as-formatted h);
+      recovers = λ n r j.
+          at-chip (λ k. (r .number ≡ k) × Unchanged i r j) (chip-of P) (no-steps i r j)
+          (λ chip h.
+          let fm = form-of chip i in
+          (its-number (store-number fm i) n (recovery-of fm i) i r j fm h, its-refusal (store-number fm i) n (recovery-of fm i) i r j fm h));
+      writes = λ a v n r j h. write-number-is i P (single a v) n r j h;
+      writes-group = λ b n r j h. write-number-is i P (group-of b) n r j h;
+      reads = λ a r.
+          at-chip (λ k. (r .number ≡ k) × ((r .number ≡ OK → ⊥) → r .value ≡ 0)) (chip-of P) (no-value i r)
+          (λ chip h. let fm = form-of chip i in read-so (read-number fm a i) (or-value (value a (pages fm i)) 0) r h);
+      blank-reads = λ a r.
+          at-chip (λ k. (r .number ≡ k) × ((r .number ≡ OK → ⊥) → r .value ≡ 0)) (chip-of P) (no-value i r)
+          (λ chip h. let fm = form-of chip i in read-so (blank-read-number fm a i) (blank-value (value a (pages fm i))) r h);
+      looks = λ r.
+          at-chip (λ k. (r .number ≡ k) × ((r .number ≡ OK → ⊥) → as-pairing r ≡ refused-lookup (r .number))) (chip-of P) (no-code i r)
+          (λ chip h. look-number i (form-of chip i) r h);
     }
 
 -- ---- only one outcome
@@ -134,7 +168,7 @@ same-pairing : (r s : Pair) → as-pairing r ≡ as-pairing s → r ≡ s
 same-pairing r s h = ap pair-of h
 
 pub one-outcome : only-one-outcome
-one-outcome i =
+one-outcome P i =
     record {
       formats = λ second r s j k h g. (h .0 ∙ sym (g .0), h .1 ∙ sym (g .1));
       recovers = λ n r s j k h g. same-stepped r s j k (h ∙ sym g);
@@ -147,85 +181,112 @@ one-outcome i =
 
 -- ---- demand 3
 
-told-had : (second : Bool) → has-edition this-chip (edition-told second) ≡ true
+told-had : (chip : Chip) → RoomyChip chip → (second : Bool) → has-edition chip (told-form chip second .edition) ≡ true
 unfolding has-edition
-told-had true = refl
-told-had false = refl
+told-had chip roomy true = and-both (le-leb (chip .first) (chip .last) (roomy .1)) (le-leb (chip .last) (chip .last) (omega arith))
+told-had chip roomy false = and-both (le-leb (chip .first) (chip .first) (omega arith)) (le-leb (chip .first) (chip .last) (roomy .1))
 
-exported-obey : Obeys this-chip exported
-unfolding answer
-exported-obey = record { formats = formats; recovers = λ n i s h. h .2 ∙ h .1; writes = writes; answers = answers }
-  where
-    formats : (e : ℕ) (i : List ℕ) (f : Formatted) → exported .Formats e i f → (has-edition this-chip e ≡ true) × (f ≡ format (in-edition this-chip e) i)
-    formats e i f h =
-        let is : f ≡ format (told-form (h .0)) i = ap₂ (λ (n : ℕ) (j : List ℕ). record { number = n; image = j }) (h .2 .0) (h .2 .1) in
-        (ap (has-edition this-chip) (h .1) ∙ told-had (h .0), is ∙ ap (λ (x : ℕ). format (in-edition this-chip x) i) (sym (h .1)))
+-- the calls that name a page size are those of its chip
+module _ (P : ℕ) (chip : Chip) (named : chip-of P ≡ some chip) where
+  obey : Obeys chip (all-naming P)
+  unfolding answer
+  obey = record { formats = formats; recovers = λ n i s h. h .2 ∙ h .1 ∙ recover-named P chip named i n; writes = writes; answers = answers }
+    where
+      formats : (e : ℕ) (i : List ℕ) (f : Formatted) → formatted P e i f → (has-edition chip e ≡ true) × (f ≡ format (in-edition chip e) i)
+      formats e i f h =
+          let second = h .0 in
+          let same : h .1 ≡ chip = Option·some-injective (h .1) chip (sym (h .2) ∙ named) in
+          let is : e ≡ told-form chip second .edition = h .3 ∙ ap (λ (c : Chip). told-form c second .edition) same in (
+            ap (has-edition chip) is ∙ told-had chip (named-roomy P chip named) second,
+            as-formatted (h .4) ∙ format-named P chip named i second ∙ ap (λ (x : ℕ). format (in-edition chip x) i) (sym is),
+          )
 
-    writes : (c : Change) (n : ℕ) (i : List ℕ) (s : Stepped) → wrote c n i s → s ≡ write (its-form i) c n i
-    writes (single a v) n i s h = h .2 ∙ h .1
-    writes (group rs) n i s h = h .4 ∙ h .3 ∙ ap (λ (c : Change). write (its-form i) c n i) (h .2)
+      writes : (c : Change) (n : ℕ) (i : List ℕ) (s : Stepped) → wrote P c n i s → s ≡ write (form-of chip i) c n i
+      writes (single a v) n i s h = h .2 ∙ h .1 ∙ write-named P chip named i (single a v) n
+      writes (group rs) n i s h = h .4 ∙ h .3 ∙ ap (λ (c : Change). write-at P c n i) (h .2) ∙ write-named P chip named i (group rs) n
 
-    answers : (q : Question) (i : List ℕ) (r : Answer q) → replies q i r → r ≡ answer (its-form i) q i
-    answers (value-at x) i r h = h .2 ∙ h .1
-    answers (blank-value-at x) i r h = h .2 ∙ h .1
-    answers pairing-code i r h = h .2 ∙ h .1
+      answers : (q : Question) (i : List ℕ) (r : Answer q) → replies P q i r → r ≡ answer (form-of chip i) q i
+      answers (value-at x) i r h = h .2 ∙ h .1 ∙ read-named P chip named i x
+      answers (blank-value-at x) i r h = h .2 ∙ h .1 ∙ blank-read-named P chip named i x
+      answers pairing-code i r h = h .2 ∙ h .1 ∙ lookup-named P chip named i
 
 pub keeps-its-word : a-store-keeps-its-word
-keeps-its-word = kept this-chip (omega arith, omega arith) exported exported-obey
+keeps-its-word P chip named = kept chip (named-roomy P chip named) (all-naming P) (obey P chip named)
 
 -- a lookup has four digits, as the struct of the code has
-four-digits : (i : List ℕ) → as-pairing (pair-of (lookup (its-form i) i)) ≡ lookup (its-form i) i
+four-digits : (fm : Form) (i : List ℕ) → as-pairing (pair-of (lookup fm i)) ≡ lookup fm i
 unfolding pairing code
-four-digits i =
-    let fm = its-form i in
+four-digits fm i =
     by-cases (eqb (store-number fm i) 0)
     (λ t. rw (lookup-done fm i (eqb-true (store-number fm i) 0 t)))
     (λ t. rw (lookup-refused fm i (eqb-false (store-number fm i) 0 t)))
 
+four-at : (o : Option Chip) (i : List ℕ) → let r = on-chip o (refused-lookup SIZE) (λ c. lookup (form-of c i) i) in as-pairing (pair-of r) ≡ r
+unfolding on-chip
+four-at none i = refl
+four-at (some c) i = four-digits (form-of c i) i
+
+abbrev read-of : Reading → Read
+read-of x = record { number = x .number; value = x .value }
+
 pub answered : every-question-is-answered
-unfolding answer
-answered i = (λ q. answer (its-form i) q i, each)
+answered P i = (given, each)
   where
-    each : (q : Question) → replies q i (answer (its-form i) q i)
-    each (value-at x) = (record { number = read (its-form i) x i .number; value = read (its-form i) x i .value }, refl, refl)
-    each (blank-value-at x) = (record { number = blank-read (its-form i) x i .number; value = blank-read (its-form i) x i .value }, refl, refl)
-    each pairing-code = (pair-of (lookup (its-form i) i), four-digits i, sym (four-digits i))
+    given : (q : Question) → Answer q
+    given (value-at x) = read-at P x i
+    given (blank-value-at x) = blank-read-at P x i
+    given pairing-code = lookup-at P i
+
+    each : (q : Question) → replies P q i (given q)
+    each (value-at x) = (read-of (read-at P x i), refl, refl)
+    each (blank-value-at x) = (read-of (blank-read-at P x i), refl, refl)
+    each pairing-code = (pair-of (lookup-at P i), four-at (chip-of P) i, sym (four-at (chip-of P) i))
 
 -- ---- demand 2
 
 -- what is found at each address of a list, told of the rules' readings, is so of the code's
-gives-each : (j : List ℕ) (rs : List Setting) → EachOf (λ a v. (r : Reading) → replies (value-at a) j r → r ≡ finds v) rs
-    → EachOf (λ a v. (q : Read) → Reads a j q → Gives q v) rs
+gives-each : (P : ℕ) (j : List ℕ) (rs : List Setting) → EachOf (λ a v. (r : Reading) → replies P (value-at a) j r → r ≡ finds v) rs
+    → EachOf (λ a v. (q : Read) → Reads P a j q → Gives q v) rs
 unfolding EachOf
-gives-each j [] h = tt
-gives-each j (setting a v ∷ rs) h =
-    (λ q g. let e = h .0 (as-reading q) (q, g, refl) in (ap (λ (x : Reading). x .number) e, ap (λ (x : Reading). x .value) e), gives-each j rs (h .1))
+gives-each P j [] h = tt
+gives-each P j (setting a v ∷ rs) h =
+    (λ q g. let e = h .0 (as-reading q) (q, g, refl) in (ap (λ (x : Reading). x .number) e, ap (λ (x : Reading). x .value) e), gives-each P j rs (h .1))
 
-module _ (i : List ℕ) where
-  did : (c : Change) (n : ℕ) (r : Done) (j : List ℕ) → as-stepped r j ≡ write (its-form i) c n i → r .number ≡ OK → Did c n i r j
+module _ (P : ℕ) (chip : Chip) (named : chip-of P ≡ some chip) (i : List ℕ) where
+  did : (c : Change) (n : ℕ) (r : Done) (j : List ℕ) → as-stepped r j ≡ write-at P c n i → r .number ≡ OK → Did (form-of chip i) c n i r j
   unfolding write
-  did c n r j h = its-steps (write-number (its-form i) c i) n (write-of (its-form i) c i) i r j (its-form i) h
+  did c n r j h =
+      let fm = form-of chip i in
+      its-steps (write-number fm c i) n (write-of fm c i) i r j fm (h ∙ write-named P chip named i c n)
 
-  found : (c : Change) (n : ℕ) (r : Done) (j : List ℕ) → wrote c n i (as-stepped r j) → r .number ≡ OK → r .finished ≡ true
-      → EachOf (λ a v. (q : Read) → Reads a j q → Gives q v) (settings-of c)
-  found c n r j h ok fin = gives-each j (settings-of c) (keeps-its-word .finds-what-is-written i c n (as-stepped r j) h ok fin .there)
+  found : (c : Change) (n : ℕ) (r : Done) (j : List ℕ) → wrote P c n i (as-stepped r j) → r .number ≡ OK → r .finished ≡ true
+      → EachOf (λ a v. (q : Read) → Reads P a j q → Gives q v) (settings-of c)
+  found c n r j h ok fin = gives-each P j (settings-of c) (keeps-its-word P chip named .finds-what-is-written i c n (as-stepped r j) h ok fin .there)
+
+  format-steps-are : (second : Bool) (r : ℕ) (j : List ℕ) → Formats P second i r j → r ≡ OK
+      → let fm = told-form chip second in
+      let ss = format-steps (fm .edition) (page-count fm i) in
+      (j ≡ run (size fm) ss i) × (length ss ≡ 3 * page-count fm i + 2)
+  format-steps-are second r j h ok =
+      let fm = told-form chip second in
+      let is = as-formatted h ∙ format-named P chip named i second in
+      by-cases (wrong-size fm i)
+      (λ t. absurd (one-not-zero (sym (ap (λ (f : Formatted). f .number) (is ∙ format-refused fm i t)) ∙ ok)))
+      (λ t. (ap (λ (f : Formatted). f .image) (is ∙ format-done fm i t), format-long (fm .edition) (page-count fm i)))
+    where
+      one-not-zero : _≡_ {A = ℕ} 1 0 → ⊥
+      one-not-zero e = omega arith
 
 pub follows-the-rules : every-step-follows-the-rules
 unfolding recover EachOf settings-of group-of
-follows-the-rules i =
+follows-the-rules P chip named i =
+    let fm = form-of chip i in
     record {
-      formats = λ second r j h ok.
-          let fm = told-form second in
-          by-cases (wrong-size fm i)
-          (λ t. absurd (one-not-zero (sym (h .0 ∙ ap (λ (f : Formatted). f .number) (format-refused fm i t)) ∙ ok)))
-          (λ t. (h .1 ∙ ap (λ (f : Formatted). f .image) (format-done fm i t), format-long (fm .edition) (page-count fm i)));
-      recovers = λ n r j h. its-steps (store-number (its-form i) i) n (recovery-of (its-form i) i) i r j (its-form i) h;
-      writes = λ a v n r j h. did i (single a v) n r j h;
-      writes-group = λ b n r j h. did i (group-of b) n r j h;
-      longest = not-longer (its-form i) i;
-      finds = λ a v n r j h ok fin. found i (single a v) n r j (r, h, refl) ok fin .0;
-      finds-each = λ b n r j h ok fin. found i (group-of b) n r j (b, r, refl, h, refl) ok fin;
+      formats = format-steps-are P chip named i;
+      recovers = λ n r j h. its-steps (store-number fm i) n (recovery-of fm i) i r j fm (h ∙ recover-named P chip named i n);
+      writes = λ a v n r j h. did P chip named i (single a v) n r j h;
+      writes-group = λ b n r j h. did P chip named i (group-of b) n r j h;
+      longest = not-longer fm i;
+      finds = λ a v n r j h ok fin. found P chip named i (single a v) n r j (r, h, refl) ok fin .0;
+      finds-each = λ b n r j h ok fin. found P chip named i (group-of b) n r j (b, r, refl, h, refl) ok fin;
     }
-  where
-    one-not-zero : _≡_ {A = ℕ} 1 0 → ⊥
-    one-not-zero e = omega arith

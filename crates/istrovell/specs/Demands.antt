@@ -2,17 +2,19 @@
 use Prim.Native.Nat.{ℕ, _+_, _*_, _≤_}
 use mathlib.Core.Path.{_≡_}
 use mathlib.Core.Bool.{Bool, true, false, cond}
-use mathlib.Core.List.{List, [], _∷_}
+use mathlib.Core.List.{List}
+use mathlib.Core.Option.{some}
 use lib.ListN.{length, take}
 use lib.Dec.{leb}
 use Rattle.rules.specs.Flash.{run}
 use Rattle.rules.specs.Steps.{format-steps, Change, single, group, settings-of}
-use Rattle.rules.specs.Page.{Form, size, in-edition}
-use Rattle.rules.specs.Call.{this-chip, form-of, page-count, wrong-size, store-number, write-number, read-number, blank-read-number, OK, SIZE}
-use Rattle.rules.specs.Call.{format, group-of, recover, write, read, blank-read, lookup, Stepped as Outcome}
+use Rattle.rules.specs.Page.{Form, size, Chip}
+use Rattle.rules.specs.Call.{form-of, page-count, wrong-size, store-number, write-number, read-number, blank-read-number, OK, SIZE}
+use Rattle.rules.specs.Call.{Formatted, Stepped as Outcome, refused-lookup, group-of}
+use Rattle.rules.specs.Named.{chip-of, on-chip, told-form, format-at, recover-at, write-at, read-at, blank-read-at, lookup-at, number-at}
 use Rattle.promise.specs.Calls.{Question, value-at, blank-value-at, pairing-code, Answer, EachAnswer, EachOf, Calls}
 use Rattle.promise.specs.History.{recovery-of, write-of}
-use Rattle.promise.specs.Promise.{AnswersEach, KeepsItsWord}
+use Rattle.promise.specs.Promise.{KeepsItsWord}
 use Rattle.promise.specs.Corollaries.{longest as longest-write}
 use Rattle.reading.specs.declared.Reading.{Reading}
 use Rattle.reading.specs.declared.Pairing.{Pairing}
@@ -20,132 +22,131 @@ use Rattle.reading.specs.Answers.{as-reading, as-pairing}
 use Rattle.writing.specs.declared.Stepped.{Stepped}
 use Rattle.writing.specs.Answers.{as-stepped}
 
--- P9. The edition that format is told, and the form of its pages. P10. The form that every other call reads an image by.
-abbrev pub edition-told : (second : Bool) → ℕ
-edition-told second = cond second 2 1
+-- What the contracts say: P is the page size that the call names, i the image at the call, r the answer, j the image after it. A read
+-- leaves the image.
+abbrev pub Formats : (P : ℕ) (second : Bool) (i : List ℕ) (r : ℕ) (j : List ℕ) → Type 0
+Formats P second i r j = (r ≡ format-at P second i .number) × (j ≡ format-at P second i .image)
 
-abbrev pub told-form : (second : Bool) → Form
-told-form second = in-edition this-chip (edition-told second)
+abbrev pub Recovers : (P allowance : ℕ) (i : List ℕ) (r : Stepped) (j : List ℕ) → Type 0
+Recovers P n i r j = as-stepped r j ≡ recover-at P n i
 
-abbrev pub its-form : (i : List ℕ) → Form
-its-form i = form-of this-chip i
+abbrev pub Writes : (P address value allowance : ℕ) (i : List ℕ) (r : Stepped) (j : List ℕ) → Type 0
+Writes P a v n i r j = as-stepped r j ≡ write-at P (single a v) n i
 
--- What the contracts say: i is the image at the call, r the answer, j the image after it. A read leaves the image.
-abbrev pub Formats : (second : Bool) (i : List ℕ) (r : ℕ) (j : List ℕ) → Type 0
-Formats second i r j = (r ≡ format (told-form second) i .number) × (j ≡ format (told-form second) i .image)
+abbrev pub WritesGroup : (P : ℕ) (bytes : List ℕ) (allowance : ℕ) (i : List ℕ) (r : Stepped) (j : List ℕ) → Type 0
+WritesGroup P b n i r j = as-stepped r j ≡ write-at P (group-of b) n i
 
-abbrev pub Recovers : (allowance : ℕ) (i : List ℕ) (r : Stepped) (j : List ℕ) → Type 0
-Recovers n i r j = as-stepped r j ≡ recover (its-form i) n i
+abbrev pub Reads : (P address : ℕ) (i : List ℕ) (r : Reading) → Type 0
+Reads P a i r = as-reading r ≡ read-at P a i
 
-abbrev pub Writes : (address value allowance : ℕ) (i : List ℕ) (r : Stepped) (j : List ℕ) → Type 0
-Writes a v n i r j = as-stepped r j ≡ write (its-form i) (single a v) n i
+abbrev pub BlankReads : (P address : ℕ) (i : List ℕ) (r : Reading) → Type 0
+BlankReads P a i r = as-reading r ≡ blank-read-at P a i
 
-abbrev pub WritesGroup : (bytes : List ℕ) (allowance : ℕ) (i : List ℕ) (r : Stepped) (j : List ℕ) → Type 0
-WritesGroup b n i r j = as-stepped r j ≡ write (its-form i) (group-of b) n i
+abbrev pub LooksUp : (P : ℕ) (i : List ℕ) (r : Pairing) → Type 0
+LooksUp P i r = as-pairing r ≡ lookup-at P i
 
-abbrev pub Reads : (address : ℕ) (i : List ℕ) (r : Reading) → Type 0
-Reads a i r = as-reading r ≡ read (its-form i) a i
-
-abbrev pub BlankReads : (address : ℕ) (i : List ℕ) (r : Reading) → Type 0
-BlankReads a i r = as-reading r ≡ blank-read (its-form i) a i
-
-abbrev pub LooksUp : (i : List ℕ) (r : Pairing) → Type 0
-LooksUp i r = as-pairing r ≡ lookup (its-form i) i
-
--- Demand 1. Each call takes any flash image, any address and any bytes of a group. A call that can't be done answers by number, given
--- exactly when the table of the rules says so, and every byte of the image stays. That nothing outside the image is touched and that
--- every call ends is proved of each function by the toolchain.
+-- Demand 1. Each call takes any flash image, any page size, any address and any bytes of a group. A call that can't be done answers by
+-- number, given exactly when the table of the rules says so, and every byte of the image stays. That nothing outside the image is
+-- touched and that every call ends is proved of each function by the toolchain.
 abbrev pub Unchanged : (i : List ℕ) (r : Stepped) (j : List ℕ) → Type 0
 Unchanged i r j = (r .number ≡ OK → ⊥) → (j ≡ i) × (r .steps ≡ 0) × (r .finished ≡ false)
 
-pub record AnswersByNumber (i : List ℕ) : Type 0 where
-  pub formats : (second : Bool) (r : ℕ) (j : List ℕ) → Formats second i r j
-      → (r ≡ cond (wrong-size (told-form second) i) SIZE OK) × ((r ≡ OK → ⊥) → j ≡ i)
-  pub recovers : (n : ℕ) (r : Stepped) (j : List ℕ) → Recovers n i r j → (r .number ≡ store-number (its-form i) i) × Unchanged i r j
-  pub writes : (a v n : ℕ) (r : Stepped) (j : List ℕ) → Writes a v n i r j
-      → (r .number ≡ write-number (its-form i) (single a v) i) × Unchanged i r j
-  pub writes-group : (b : List ℕ) (n : ℕ) (r : Stepped) (j : List ℕ) → WritesGroup b n i r j
-      → (r .number ≡ write-number (its-form i) (group-of b) i) × Unchanged i r j
-  pub reads : (a : ℕ) (r : Reading) → Reads a i r → (r .number ≡ read-number (its-form i) a i) × ((r .number ≡ OK → ⊥) → r .value ≡ 0)
-  pub blank-reads : (a : ℕ) (r : Reading) → BlankReads a i r
-      → (r .number ≡ blank-read-number (its-form i) a i) × ((r .number ≡ OK → ⊥) → r .value ≡ 0)
-  pub looks : (r : Pairing) → LooksUp i r → (r .number ≡ store-number (its-form i) i)
-      × ((r .number ≡ OK → ⊥) → as-pairing r ≡ record { number = r .number; paired = false; digits = 0 ∷ 0 ∷ 0 ∷ 0 ∷ [] })
+pub record AnswersByNumber (P : ℕ) (i : List ℕ) : Type 0 where
+  pub formats : (second : Bool) (r : ℕ) (j : List ℕ) → Formats P second i r j
+      → (r ≡ on-chip (chip-of P) SIZE (λ c. cond (wrong-size (told-form c second) i) SIZE OK)) × ((r ≡ OK → ⊥) → j ≡ i)
+  pub recovers : (n : ℕ) (r : Stepped) (j : List ℕ) → Recovers P n i r j → (r .number ≡ number-at P store-number i) × Unchanged i r j
+  pub writes : (a v n : ℕ) (r : Stepped) (j : List ℕ) → Writes P a v n i r j
+      → (r .number ≡ number-at P (λ f. write-number f (single a v)) i) × Unchanged i r j
+  pub writes-group : (b : List ℕ) (n : ℕ) (r : Stepped) (j : List ℕ) → WritesGroup P b n i r j
+      → (r .number ≡ number-at P (λ f. write-number f (group-of b)) i) × Unchanged i r j
+  pub reads : (a : ℕ) (r : Reading) → Reads P a i r → (r .number ≡ number-at P (λ f. read-number f a) i) × ((r .number ≡ OK → ⊥) → r .value ≡ 0)
+  pub blank-reads : (a : ℕ) (r : Reading) → BlankReads P a i r
+      → (r .number ≡ number-at P (λ f. blank-read-number f a) i) × ((r .number ≡ OK → ⊥) → r .value ≡ 0)
+  pub looks : (r : Pairing) → LooksUp P i r → (r .number ≡ number-at P store-number i)
+      × ((r .number ≡ OK → ⊥) → as-pairing r ≡ refused-lookup (r .number))
 
 abbrev pub every-call-answers-by-number : Type 0
-every-call-answers-by-number = (i : List ℕ) → AnswersByNumber i
+every-call-answers-by-number = (P : ℕ) (i : List ℕ) → AnswersByNumber P i
 
 -- From the same image and arguments only one outcome is possible.
-pub record OneOutcome (i : List ℕ) : Type 0 where
-  pub formats : (second : Bool) (r s : ℕ) (j k : List ℕ) → Formats second i r j → Formats second i s k → (r ≡ s) × (j ≡ k)
-  pub recovers : (n : ℕ) (r s : Stepped) (j k : List ℕ) → Recovers n i r j → Recovers n i s k → (r ≡ s) × (j ≡ k)
-  pub writes : (a v n : ℕ) (r s : Stepped) (j k : List ℕ) → Writes a v n i r j → Writes a v n i s k → (r ≡ s) × (j ≡ k)
-  pub writes-group : (b : List ℕ) (n : ℕ) (r s : Stepped) (j k : List ℕ) → WritesGroup b n i r j → WritesGroup b n i s k → (r ≡ s) × (j ≡ k)
-  pub reads : (a : ℕ) (r s : Reading) → Reads a i r → Reads a i s → r ≡ s
-  pub blank-reads : (a : ℕ) (r s : Reading) → BlankReads a i r → BlankReads a i s → r ≡ s
-  pub looks : (r s : Pairing) → LooksUp i r → LooksUp i s → r ≡ s
+pub record OneOutcome (P : ℕ) (i : List ℕ) : Type 0 where
+  pub formats : (second : Bool) (r s : ℕ) (j k : List ℕ) → Formats P second i r j → Formats P second i s k → (r ≡ s) × (j ≡ k)
+  pub recovers : (n : ℕ) (r s : Stepped) (j k : List ℕ) → Recovers P n i r j → Recovers P n i s k → (r ≡ s) × (j ≡ k)
+  pub writes : (a v n : ℕ) (r s : Stepped) (j k : List ℕ) → Writes P a v n i r j → Writes P a v n i s k → (r ≡ s) × (j ≡ k)
+  pub writes-group : (b : List ℕ) (n : ℕ) (r s : Stepped) (j k : List ℕ) → WritesGroup P b n i r j → WritesGroup P b n i s k → (r ≡ s) × (j ≡ k)
+  pub reads : (a : ℕ) (r s : Reading) → Reads P a i r → Reads P a i s → r ≡ s
+  pub blank-reads : (a : ℕ) (r s : Reading) → BlankReads P a i r → BlankReads P a i s → r ≡ s
+  pub looks : (r s : Pairing) → LooksUp P i r → LooksUp P i s → r ≡ s
 
 abbrev pub only-one-outcome : Type 0
-only-one-outcome = (i : List ℕ) → OneOutcome i
+only-one-outcome = (P : ℕ) (i : List ℕ) → OneOutcome P i
 
 -- an accepted answer with that value
 abbrev pub Gives : Reading → ℕ → Type 0
 Gives r v = (r .number ≡ OK) × (r .value ≡ v)
 
 -- a call did the steps of the change as far as its allowance goes, and says so
-abbrev pub Did : (change : Change) (allowance : ℕ) (i : List ℕ) (r : Stepped) (j : List ℕ) → Type 0
-Did c n i r j =
-    let ss = take n (write-of (its-form i) c i) in
-    (j ≡ run (size (its-form i)) ss i) × (r .steps ≡ length ss) × (r .finished ≡ leb (length (write-of (its-form i) c i)) n)
+abbrev pub Did : (form : Form) (change : Change) (allowance : ℕ) (i : List ℕ) (r : Stepped) (j : List ℕ) → Type 0
+Did fm c n i r j =
+    let ss = write-of fm c i in
+    (j ≡ run (size fm) (take n ss) i) × (r .steps ≡ length (take n ss)) × (r .finished ≡ leb (length ss) n)
 
 -- Demand 2. The image after each flash step is the one that the rules give; a format has 3 x pages + 2 steps, and no write is
 -- longer than 388 + 3 x (pages - 1) (that one is so long: `a-longest-write` of promise). What a finished write puts at an
--- address, a read finds, and of a group each: of every image.
-pub record FollowsTheRules (i : List ℕ) : Type 0 where
-  pub formats : (second : Bool) (r : ℕ) (j : List ℕ) → Formats second i r j → r ≡ OK
-      → let fm = told-form second in
+-- address, a read that names the same size finds, and of a group each: of every image.
+pub record FollowsTheRules (P : ℕ) (chip : Chip) (i : List ℕ) : Type 0 where
+  pub formats : (second : Bool) (r : ℕ) (j : List ℕ) → Formats P second i r j → r ≡ OK
+      → let fm = told-form chip second in
       let ss = format-steps (fm .edition) (page-count fm i) in
       (j ≡ run (size fm) ss i) × (length ss ≡ 3 * page-count fm i + 2)
-  pub recovers : (n : ℕ) (r : Stepped) (j : List ℕ) → Recovers n i r j → r .number ≡ OK
-      → let ss = take n (recovery-of (its-form i) i) in (j ≡ run (size (its-form i)) ss i) × (r .steps ≡ length ss)
-      × (r .finished ≡ leb (length (recovery-of (its-form i) i)) n)
-  pub writes : (a v n : ℕ) (r : Stepped) (j : List ℕ) → Writes a v n i r j → r .number ≡ OK → Did (single a v) n i r j
-  pub writes-group : (b : List ℕ) (n : ℕ) (r : Stepped) (j : List ℕ) → WritesGroup b n i r j → r .number ≡ OK → Did (group-of b) n i r j
-  pub longest : (c : Change) → write-number (its-form i) c i ≡ OK → length (write-of (its-form i) c i) ≤ longest-write (page-count (its-form i) i)
-  pub finds : (a v n : ℕ) (r : Stepped) (j : List ℕ) → Writes a v n i r j → r .number ≡ OK → r .finished ≡ true
-      → (q : Reading) → Reads a j q → Gives q v
-  pub finds-each : (b : List ℕ) (n : ℕ) (r : Stepped) (j : List ℕ) → WritesGroup b n i r j → r .number ≡ OK → r .finished ≡ true
-      → EachOf (λ a v. (q : Reading) → Reads a j q → Gives q v) (settings-of (group-of b))
+  pub recovers : (n : ℕ) (r : Stepped) (j : List ℕ) → Recovers P n i r j → r .number ≡ OK
+      → let fm = form-of chip i in
+      let ss = recovery-of fm i in
+      (j ≡ run (size fm) (take n ss) i) × (r .steps ≡ length (take n ss)) × (r .finished ≡ leb (length ss) n)
+  pub writes : (a v n : ℕ) (r : Stepped) (j : List ℕ) → Writes P a v n i r j → r .number ≡ OK → Did (form-of chip i) (single a v) n i r j
+  pub writes-group : (b : List ℕ) (n : ℕ) (r : Stepped) (j : List ℕ) → WritesGroup P b n i r j → r .number ≡ OK
+      → Did (form-of chip i) (group-of b) n i r j
+  pub longest : (c : Change) → let fm = form-of chip i in write-number fm c i ≡ OK → length (write-of fm c i) ≤ longest-write (page-count fm i)
+  pub finds : (a v n : ℕ) (r : Stepped) (j : List ℕ) → Writes P a v n i r j → r .number ≡ OK → r .finished ≡ true
+      → (q : Reading) → Reads P a j q → Gives q v
+  pub finds-each : (b : List ℕ) (n : ℕ) (r : Stepped) (j : List ℕ) → WritesGroup P b n i r j → r .number ≡ OK → r .finished ≡ true
+      → EachOf (λ a v. (q : Reading) → Reads P a j q → Gives q v) (settings-of (group-of b))
 
 abbrev pub every-step-follows-the-rules : Type 0
-every-step-follows-the-rules = (i : List ℕ) → FollowsTheRules i
+every-step-follows-the-rules = (P : ℕ) (chip : Chip) → chip-of P ≡ some chip → (i : List ℕ) → FollowsTheRules P chip i
 
--- The exported calls as the promise sees them: an outcome is possible if a contract allows it. A group is written by the bytes that
--- are it.
-abbrev pub wrote : Change → (allowance : ℕ) (i : List ℕ) → Outcome → Type 0
-wrote (single a v) n i s = (r : Stepped) × Writes a v n i r (s .image) × (s ≡ as-stepped r (s .image))
-wrote (group rs) n i s = (b : List ℕ) × (r : Stepped) × (group-of b ≡ group rs) × WritesGroup b n i r (s .image) × (s ≡ as-stepped r (s .image))
+-- The exported calls that name one page size, as the promise sees them: an outcome is possible if a contract allows it. A group is
+-- written by the bytes that are it.
+module _ (P : ℕ) where
+  abbrev pub formatted : (edition : ℕ) (i : List ℕ) → Formatted → Type 0
+  formatted e i f =
+      (second : Bool) × (chip : Chip) × (chip-of P ≡ some chip) × (e ≡ told-form chip second .edition) × Formats P second i (f .number) (f .image)
 
-abbrev pub replies : (q : Question) → List ℕ → Answer q → Type 0
-replies (value-at x) i r = (s : Reading) × Reads x i s × (r ≡ as-reading s)
-replies (blank-value-at x) i r = (s : Reading) × BlankReads x i s × (r ≡ as-reading s)
-replies pairing-code i r = (s : Pairing) × LooksUp i s × (r ≡ as-pairing s)
+  abbrev pub wrote : Change → (allowance : ℕ) (i : List ℕ) → Outcome → Type 0
+  wrote (single a v) n i s = (r : Stepped) × Writes P a v n i r (s .image) × (s ≡ as-stepped r (s .image))
+  wrote (group rs) n i s = (b : List ℕ) × (r : Stepped) × (group-of b ≡ group rs) × WritesGroup P b n i r (s .image) × (s ≡ as-stepped r (s .image))
 
-abbrev pub exported : Calls
-exported =
-    record {
-      Formats = λ e i f. (second : Bool) × (e ≡ edition-told second) × Formats second i (f .number) (f .image);
-      Recovers = λ n i s. (r : Stepped) × Recovers n i r (s .image) × (s ≡ as-stepped r (s .image));
-      Writes = wrote;
-      Answers = replies;
-    }
+  abbrev pub replies : (q : Question) → List ℕ → Answer q → Type 0
+  replies (value-at x) i r = (s : Reading) × Reads P x i s × (r ≡ as-reading s)
+  replies (blank-value-at x) i r = (s : Reading) × BlankReads P x i s × (r ≡ as-reading s)
+  replies pairing-code i r = (s : Pairing) × LooksUp P i s × (r ≡ as-pairing s)
+
+  abbrev pub all-naming : Calls
+  all-naming =
+      record {
+        Formats = formatted;
+        Recovers = λ n i s. (r : Stepped) × Recovers P n i r (s .image) × (s ≡ as-stepped r (s .image));
+        Writes = wrote;
+        Answers = replies;
+      }
 
 -- Demand 3, and what else a store promises: what a finished write puts at its addresses is found by every call, and changes nothing
 -- else; a power failure in a write loses nothing, and shows no group by half; a recovery changes no answer, and mends.
--- `KeepsItsWord` of promise has the clauses.
+-- `KeepsItsWord` of promise has the clauses. They are of calls that all name the page size P, which the store's last format named:
+-- records of a page of 2,048 bytes can pass for a header at 1,024, and of what a call finds that names another size nothing is said.
 abbrev pub a-store-keeps-its-word : Type 0
-a-store-keeps-its-word = KeepsItsWord this-chip exported
+a-store-keeps-its-word = (P : ℕ) (chip : Chip) → chip-of P ≡ some chip → KeepsItsWord chip (all-naming P)
 
--- That is not about nothing: of every image each question has an answer.
+-- That is not about nothing: of every image each question has an answer, whatever size is named.
 abbrev pub every-question-is-answered : Type 0
-every-question-is-answered = (i : List ℕ) → (before : EachAnswer) × AnswersEach this-chip exported i before
+every-question-is-answered = (P : ℕ) (i : List ℕ) → (before : EachAnswer) × ((q : Question) → all-naming P .Answers q i (before q))

@@ -1,75 +1,90 @@
-// The library for C and Rust: the seven calls under their exported names. Each takes any image and any numbers, and its
-// contract fixes every answer and every byte of the image after it; include/istrovell.h tells a firmware engineer the same.
-use pages::CHIP;
+// The library for C and Rust: the seven calls under their exported names. Each takes any image, any page size and any numbers, and
+// its contract fixes every answer and every byte of the image after it; include/istrovell.h tells a firmware engineer the same.
+use pages::Named;
 use reading::Pairing;
 use reading::Reading;
+use survey::SIZE;
+use survey::Sized;
 use writing::Stepped;
-ghost use mathlib.Core.Path.{_≡_};
-ghost use Rattle.istrovell.specs.Demands.{edition-told, Formats, Recovers, Writes, WritesGroup, Reads, BlankReads, LooksUp};
+ghost use Rattle.istrovell.specs.Demands.{Formats, Recovers, Writes, WritesGroup, Reads, BlankReads, LooksUp};
 
-// P9. The edition that format is told.
-fn edition(second: bool) -> u8
-    ensures { λ r. ⌜ r ≡ edition-told second ⌝ }
+#[no_mangle]
+pub extern "C" fn istrovell_format(image: &mut [u8], page_size: u16, second: bool) -> u8
+    ensures { λ r. ⌜ Formats «page_size» second (now (image .entry)) r (now (image .exit)) ⌝ }
 {
-    if second {
-        return 2;
+    match pages::chip_of(page_size) {
+        Named::Chip(chip) => writing::format(image, chip.form(chip.told(second))),
+        Named::Nothing => SIZE,
     }
-    1
 }
 
 #[no_mangle]
-pub extern "C" fn istrovell_format(image: &mut [u8], second: bool) -> u8
-    ensures { λ r. ⌜ Formats second (now (image .entry)) r (now (image .exit)) ⌝ }
+pub extern "C" fn istrovell_recover(image: &mut [u8], page_size: u16, allowance: u16) -> Stepped
+    ensures { λ r. ⌜ Recovers «page_size» allowance (now (image .entry)) r (now (image .exit)) ⌝ }
 {
-    writing::format(image, CHIP.form(edition(second)))
-}
-
-#[no_mangle]
-pub extern "C" fn istrovell_recover(image: &mut [u8], allowance: u16) -> Stepped
-    ensures { λ r. ⌜ Recovers allowance (now (image .entry)) r (now (image .exit)) ⌝ }
-{
-    let form = survey::form_of(image, CHIP);
-    writing::recover(image, form, allowance)
+    match survey::form_at(image, page_size) {
+        Sized::Right(form) => writing::recover(image, form, allowance),
+        Sized::Wrong => writing::refused(SIZE),
+    }
 }
 
 #[no_mangle]
 pub extern "C" fn istrovell_write(
     image: &mut [u8],
+    page_size: u16,
     address: u16,
     value: u8,
     allowance: u16,
 ) -> Stepped
-    ensures { λ r. ⌜ Writes address value allowance (now (image .entry)) r (now (image .exit)) ⌝ }
+    ensures { λ r. ⌜ Writes «page_size» address value allowance (now (image .entry)) r (now (image .exit)) ⌝ }
 {
-    let form = survey::form_of(image, CHIP);
-    writing::write(image, form, address, value, allowance)
+    match survey::form_at(image, page_size) {
+        Sized::Right(form) => writing::write(image, form, address, value, allowance),
+        Sized::Wrong => writing::refused(SIZE),
+    }
 }
 
 #[no_mangle]
-pub extern "C" fn istrovell_write_group(image: &mut [u8], group: &[u8], allowance: u16) -> Stepped
-    ensures { λ r. ⌜ WritesGroup (now (group .entry)) allowance (now (image .entry)) r (now (image .exit)) ⌝ }
+pub extern "C" fn istrovell_write_group(
+    image: &mut [u8],
+    page_size: u16,
+    group: &[u8],
+    allowance: u16,
+) -> Stepped
+    ensures { λ r. ⌜ WritesGroup «page_size» (now (group .entry)) allowance (now (image .entry)) r (now (image .exit)) ⌝ }
 {
-    let form = survey::form_of(image, CHIP);
-    writing::write_group(image, form, group, allowance)
+    match survey::form_at(image, page_size) {
+        Sized::Right(form) => writing::write_group(image, form, group, allowance),
+        Sized::Wrong => writing::refused(SIZE),
+    }
 }
 
 #[no_mangle]
-pub extern "C" fn istrovell_read(image: &[u8], address: u16) -> Reading
-    ensures { λ r. ⌜ Reads address (now (image .entry)) r ⌝ }
+pub extern "C" fn istrovell_read(image: &[u8], page_size: u16, address: u16) -> Reading
+    ensures { λ r. ⌜ Reads «page_size» address (now (image .entry)) r ⌝ }
 {
-    reading::read(image, survey::form_of(image, CHIP), address)
+    match survey::form_at(image, page_size) {
+        Sized::Right(form) => reading::read(image, form, address),
+        Sized::Wrong => reading::refused(SIZE),
+    }
 }
 
 #[no_mangle]
-pub extern "C" fn istrovell_blank_read(image: &[u8], address: u16) -> Reading
-    ensures { λ r. ⌜ BlankReads address (now (image .entry)) r ⌝ }
+pub extern "C" fn istrovell_blank_read(image: &[u8], page_size: u16, address: u16) -> Reading
+    ensures { λ r. ⌜ BlankReads «page_size» address (now (image .entry)) r ⌝ }
 {
-    reading::blank_read(image, survey::form_of(image, CHIP), address)
+    match survey::form_at(image, page_size) {
+        Sized::Right(form) => reading::blank_read(image, form, address),
+        Sized::Wrong => reading::refused(SIZE),
+    }
 }
 
 #[no_mangle]
-pub extern "C" fn istrovell_lookup(image: &[u8]) -> Pairing
-    ensures { λ r. ⌜ LooksUp (now (image .entry)) r ⌝ }
+pub extern "C" fn istrovell_lookup(image: &[u8], page_size: u16) -> Pairing
+    ensures { λ r. ⌜ LooksUp «page_size» (now (image .entry)) r ⌝ }
 {
-    reading::lookup(image, survey::form_of(image, CHIP))
+    match survey::form_at(image, page_size) {
+        Sized::Right(form) => reading::lookup(image, form),
+        Sized::Wrong => reading::refused_lookup(SIZE),
+    }
 }

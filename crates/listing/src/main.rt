@@ -1,19 +1,20 @@
 // Prints the listing of the image that standard input holds.
 use libc::STDIN_FILENO;
 use libc::STDOUT_FILENO;
-use pages::CHIP;
+use pages::SMALLER;
 ghost use Prim.Native.Nat.{_≤_};
 ghost use lib.ListN.{length};
-ghost use Rattle.rules.specs.Call.{this-chip, form-of};
+ghost use Rattle.rules.specs.Call.{form-of};
 ghost use Rattle.rules.specs.Listing.{listing};
+ghost use Rattle.rules.specs.Named.{smaller-chip};
 ghost use Rattle.lines.specs.Appended.{Written};
 
-// The listing of an image, read by its own edition (P10).
+// The listing of an image with pages of 1,024 bytes, read by its own edition (P10).
 fn list(image: &[u8], out: &mut [u8]) -> usize
     requires { ⌜ 4096 ≤ length (now out) ⌝ }
-    ensures { λ r. ⌜ Written (now (out .entry)) (listing (form-of this-chip (now (image .entry))) (now (image .entry))) (now (out .exit)) r ⌝ }
+    ensures { λ r. ⌜ Written (now (out .entry)) (listing (form-of smaller-chip (now (image .entry))) (now (image .entry))) (now (out .exit)) r ⌝ }
 {
-    let form = survey::form_of(image, CHIP);
+    let form = survey::form_of(image, SMALLER);
     lines::list(image, form, out)
 }
 

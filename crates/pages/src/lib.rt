@@ -7,9 +7,10 @@ ghost use Rattle.rules.specs.Word.{words};
 ghost use Rattle.rules.specs.Page.{size, in-edition, wear-part, is-wear, wear-in, is-opening, order-in, is-done, all-blank, state-after-wear, state};
 ghost use Rattle.rules.specs.Store.{is-open, order, or-value, free-slot};
 ghost use Rattle.rules.specs.Call.{opens-itself, own-edition};
+ghost use Rattle.rules.specs.Named.{chip-of};
 ghost use Rattle.rules.specs.Steps.{one-more};
 ghost use Rattle.words.specs.Read.{as-word};
-ghost use Rattle.pages.specs.Read.{as-state, as-form, Lawful, as-chip, LawfulChip};
+ghost use Rattle.pages.specs.Read.{as-state, as-form, Lawful, as-chip, LawfulChip, as-named, LawfulNamed};
 ghost use mathlib.Core.Bool.{cond};
 
 // Pages are 2 to 32, orders 0 to 4,194,303.
@@ -35,14 +36,49 @@ pub struct Chip {
     pub last: u8,
 }
 
-// The one chip that there is: pages of 1,024 bytes, of the first edition or the second.
-pub const CHIP: Chip = Chip {
+// The chips that there are: pages of 1,024 bytes are of the first edition or the second, those of 2,048 bytes of the third.
+pub const SMALLER: Chip = Chip {
     slots: 253,
     first: 1,
     last: 2,
 };
 
+pub const LARGER: Chip = Chip {
+    slots: 509,
+    first: 3,
+    last: 3,
+};
+
+// The chip that a page size names, if there is one.
+pub enum Named {
+    Chip(Chip),
+    Nothing,
+}
+
+pub fn chip_of(page_size: u16) -> Named
+    ensures { λ r. ⌜ as-named r ≡ chip-of «page_size» ⌝ }
+    ensures { λ r. ⌜ LawfulNamed r ⌝ }
+{
+    if page_size == 1024 {
+        return Named::Chip(SMALLER);
+    }
+    if page_size == 2048 {
+        return Named::Chip(LARGER);
+    }
+    Named::Nothing
+}
+
 impl Chip {
+    // P9. The edition that format is told: the last, which of the smaller chip is the second, or the first.
+    pub fn told(self, second: bool) -> u8
+        ensures { λ r. ⌜ r ≡ cond second (self .last) (self .first) ⌝ }
+    {
+        if second {
+            return self.last;
+        }
+        self.first
+    }
+
     pub fn form(self, edition: u8) -> Form
         ensures { λ r. ⌜ as-form r ≡ in-edition (as-chip self) edition ⌝ }
         ensures { λ r. ⌜ (LawfulChip self → Lawful r) ⌝ }

@@ -19,11 +19,12 @@ use Rattle.rules.specs.Store.{place-behind, records, each, journal, or-else, la
 use Rattle.rules.specs.Store.{active-slots, has-room, in-group, open-group, count, or-value}
 use Rattle.rules.specs.Steps.{Change, single, group, settings-of, words-of, way, way-steps, new-page, next-order, fill-steps, other, renew, renew-all}
 use Rattle.rules.specs.Steps.{format-steps, unclean, slots-steps, abandon-steps, recovery-steps, append-steps, is-value, all-values, write-steps}
-use Rattle.rules.specs.Call.{Formatted, Stepped, stepped, write, first-of, store-rows, blank-read-rows, read-rows, write-rows, this-chip, RoomyChip}
+use Rattle.rules.specs.Call.{Formatted, Stepped, stepped, write, first-of, store-rows, blank-read-rows, read-rows, write-rows, RoomyChip}
 use Rattle.rules.specs.Call.{OK, cut, page-count, pages, own-edition, has-edition, opens-itself, edition-of, form-of, wrong-size, no-store, among, repeats}
 use Rattle.rules.specs.Call.{all-used, damaged, is-unclean, wrong-group, wrong-address, a-wrong-address, is-held, is-new, no-room, order-end}
 use Rattle.rules.specs.Call.{store-number, write-number, blank-read-number, read-number, accepted, format, reading, read, blank-value, code, all-held}
 use Rattle.rules.specs.Call.{pairing}
+use Rattle.rules.specs.Named.{smaller-chip, larger-chip}
 use Rattle.rules.proofs.Bits.{rises-refl}
 use Rattle.rules.proofs.Laid.{laid, laid-all, within, run-laid}
 use Rattle.rules.proofs.Plans.{BytesLeft}
@@ -36,7 +37,7 @@ use Rattle.promise.specs.Calls.{Image, pairing-code, finds, by-the-rules
 use Rattle.promise.specs.History.{write-of, FailsAfter, formatted, none as no-more, Interrupted}
 use Rattle.promise.specs.Corollaries.{Used, the-code-survives, never-half-a-code, a-paired-handset-stays-paired, an-edition-stays}
 use Rattle.promise.specs.Corollaries.{orders-differ, a-page-is-spare, never-over-full, recorded-in, the-first-edition-is-as-it-was}
-use Rattle.promise.specs.Corollaries.{every-step-may-be-done, this-form, new-flash, fresh-store, finds-nothing, not-about-nothing}
+use Rattle.promise.specs.Corollaries.{every-step-may-be-done, first-form, new-flash, fresh-store, finds-nothing, SuchAStore, not-about-nothing}
 use Rattle.rules.proofs.Healthy.{Healthy, few-here, apart-here, spare-here, accepted-healthy, recovery-allowed, write-allowed}
 use Rattle.promise.proofs.Answers.{lookup-is, paired-if, still-held}
 use Rattle.promise.proofs.Kept.{Well, in-use-healthy, either, form-stays, kept}
@@ -120,105 +121,137 @@ as-it-was fm h i =
 
 -- ---- a store, and a write whose power fails
 
--- the fresh store, computed in one pass for each step of the format
-laid-out : List ℕ
-laid-out = laid-all (size this-form) (format-steps (this-form .edition) 2) new-flash
-
-all-within : within (size this-form) (length new-flash) (format-steps (this-form .edition) 2) ≡ true
-unfolding within format-steps renew-all renew word-steps wear-word opening-word number-word checked offset aim
-all-within = refl
-
-fresh-is : fresh-store ≡ laid-out
-unfolding laid-out format wrong-size page-count
-fresh-is = run-laid (size this-form) (format-steps (this-form .edition) 2) new-flash all-within
-
--- it with two bytes in the second half of slot 0 of page 0, after the first half of the record
-with-second : (c d : ℕ) → List ℕ
-with-second c d = sets (after (size this-form) (program 0 3 first 5 0) laid-out) 14 (c ∷ d ∷ [])
-
--- what the rules compute of it
 abbrev change : Change
 change = single 5 65
 
-record Computed : Type 0 where
-  lawful : wrong-size this-form new-flash ≡ false
-  edition : form-of this-chip laid-out ≡ this-form
-  accepted : write-number this-form change laid-out ≡ OK
-  steps : write-of this-form change laid-out ≡ program 0 3 first 5 0 ∷ program 0 3 second 65 20 ∷ []
-  torn : bytes-at 12 4 (with-second 67 20) ≡ 0x05 ∷ 0x00 ∷ 0x43 ∷ 0x14 ∷ []
-  torn-reads : read (form-of this-chip (with-second 67 20)) 5 (with-second 67 20) ≡ finds-nothing
-  whole : bytes-at 12 4 (with-second 65 20) ≡ 0x05 ∷ 0x00 ∷ 0x41 ∷ 0x14 ∷ []
-  whole-reads : read (form-of this-chip (with-second 65 20)) 5 (with-second 65 20) ≡ finds 65
+module _ (chip : Chip) where
+  abbrev fm : Form
+  fm = first-form chip
 
-computed : Computed
-unfolding with-second laid-out laid laid-all offset aim after run zeros check sound blank second-blank condition low16 low24 third checked wear-word number-word
-    opening-word record-word slot sound-slot word-steps words wear-part opening-part done-part slots is-wear wear-in is-opening order-in is-done
-    all-blank state-after-wear state-by state page states order₂ base used is-cleared is-open order add-order used-orders greatest active-order
-    is-active index-of active-index add-page used-pages insert oldest-first scan counted behind place-behind records each journal or-else last-of
-    value put put-all settings held past free-slot active-page active-slots has-room in-group open-group count renew renew-all format-steps unclean
-    slots-steps settings-of words-of append-steps is-value all-values write-steps first-of store-rows blank-read-rows read-rows write-rows way
-    way-steps new-page next-order fill-steps other cut page-count pages own-edition has-edition opens-itself edition-of form-of wrong-size
-    no-store among repeats all-used damaged is-unclean wrong-group wrong-address a-wrong-address is-held is-new no-room order-end store-number
-    write-number blank-read-number read-number accepted format or-value reading read bytes-at
-computed =
-    record { lawful = refl; edition = refl; accepted = refl; steps = refl; torn = refl; torn-reads = refl; whole = refl; whole-reads = refl }
+  -- the fresh store, computed in one pass for each step of the format
+  laid-out : List ℕ
+  laid-out = laid-all (size fm) (format-steps (fm .edition) 2) (new-flash chip)
 
--- a write that is stopped after n of its steps ss, and what is left when the next fails
-stopped : (n : ℕ) (ss : List Step) (i j : Image) → form-of this-chip i ≡ this-form → write-number this-form change i ≡ OK
-    → write-of this-form change i ≡ ss
-    → BytesLeft (size this-form) 0 (drop (length (take n ss)) ss) (run (size this-form) (take n ss) i) j
-    → Interrupted this-chip (by-the-rules this-chip) change i (length (take n ss)) j
-unfolding write
-stopped n ss i j by ok is l =
-    let e = ap (λ (xs : List Step). stepped this-form (write-number this-form change i) n xs i) is
-    ∙ stepped-done this-form (write-number this-form change i) n ss i ok in
-    record {
-      after-write = j;
-      then = no-more;
-      write = record {
-        allowance = n;
-        done = write this-form change n i;
-        called = rw by;
-        accepted = ap (λ (s : Stepped). s .number) e;
-        counted = ap (λ (s : Stepped). s .steps) e;
-        fails = subst⁻¹ (λ (fm : Form). FailsAfter fm (write this-form change n i) (write-of fm change i) j) by
-            (subst⁻¹ (λ (xs : List Step). FailsAfter this-form (stepped this-form (write-number this-form change i) n (write-of this-form change i) i) xs j) is
-            (subst⁻¹ (λ (s : Stepped). FailsAfter this-form s ss j) e l));
-      };
-    }
+  -- it with two bytes in the second half of slot 0 of page 0, after the first half of the record
+  with-second : (c d : ℕ) → List ℕ
+  with-second c d = sets (after (size fm) (program 0 3 first 5 0) laid-out) (offset (size fm) (program 0 3 second 65 20)) (c ∷ d ∷ [])
 
--- a failure in the second half of the record
-second-fails : (c d : ℕ) → Rises 8 65 c → Rises 8 20 d → Interrupted this-chip (by-the-rules this-chip) change fresh-store 1 (with-second c d)
-unfolding with-second least offset run
-second-fails c d p q =
-    subst⁻¹ (λ (i : Image). Interrupted this-chip (by-the-rules this-chip) change i 1 (with-second c d)) fresh-is
-    (stopped 1 (program 0 3 first 5 0 ∷ program 0 3 second 65 20 ∷ []) laid-out (with-second c d) (computed .edition) (computed .accepted) (computed .steps)
-    (failing (record { left = c ∷ d ∷ []; rises = byte p (byte q no-bytes); image = refl })))
+  -- what the rules compute of it
+  record Computed : Type 0 where
+    lawful : wrong-size fm (new-flash chip) ≡ false
+    two : page-count fm (new-flash chip) ≡ 2
+    has-first : has-edition chip (chip .first) ≡ true
+    all-within : within (size fm) (length (new-flash chip)) (format-steps (fm .edition) 2) ≡ true
+    edition : form-of chip laid-out ≡ fm
+    accepted : write-number fm change laid-out ≡ OK
+    steps : write-of fm change laid-out ≡ program 0 3 first 5 0 ∷ program 0 3 second 65 20 ∷ []
+    torn : bytes-at 12 4 (with-second 67 20) ≡ 0x05 ∷ 0x00 ∷ 0x43 ∷ 0x14 ∷ []
+    torn-reads : read (form-of chip (with-second 67 20)) 5 (with-second 67 20) ≡ finds-nothing
+    whole : bytes-at 12 4 (with-second 65 20) ≡ 0x05 ∷ 0x00 ∷ 0x41 ∷ 0x14 ∷ []
+    whole-reads : read (form-of chip (with-second 65 20)) 5 (with-second 65 20) ≡ finds 65
+
+computed : Computed smaller-chip × Computed larger-chip
+unfolding within with-second laid-out laid laid-all offset aim after run zeros check sound blank second-blank condition low16 low24 third checked
+    wear-word number-word opening-word record-word slot sound-slot word-steps words wear-part opening-part done-part slots is-wear wear-in is-opening
+    order-in is-done all-blank state-after-wear state-by state page states order₂ base used is-cleared is-open order add-order used-orders greatest
+    active-order is-active index-of active-index add-page used-pages insert oldest-first scan counted behind place-behind records each journal or-else
+    last-of value put put-all settings held past free-slot active-page active-slots has-room in-group open-group count renew renew-all format-steps
+    unclean slots-steps settings-of words-of append-steps is-value all-values write-steps first-of store-rows blank-read-rows read-rows write-rows way
+    way-steps new-page next-order fill-steps other cut page-count pages own-edition has-edition opens-itself edition-of form-of wrong-size no-store
+    among repeats all-used damaged is-unclean wrong-group wrong-address a-wrong-address is-held is-new no-room order-end store-number write-number
+    blank-read-number read-number accepted format or-value reading read bytes-at
+computed = (
+  record {
+    lawful = refl;
+    two = refl;
+    has-first = refl;
+    all-within = refl;
+    edition = refl;
+    accepted = refl;
+    steps = refl;
+    torn = refl;
+    torn-reads = refl;
+    whole = refl;
+    whole-reads = refl;
+  },
+  record {
+    lawful = refl;
+    two = refl;
+    has-first = refl;
+    all-within = refl;
+    edition = refl;
+    accepted = refl;
+    steps = refl;
+    torn = refl;
+    torn-reads = refl;
+    whole = refl;
+    whole-reads = refl;
+  },
+)
 
 value-rises : Rises 8 65 67
 unfolding Rises
 value-rises = (omega arith, (omega arith, (omega arith, (omega arith, (omega arith, (omega arith, (omega arith, (omega arith, refl))))))))
 
-format-accepted : wrong-size this-form new-flash ≡ false → format this-form new-flash .number ≡ OK
-format-accepted w = ap (λ (f : Formatted). f .number) (format-done this-form new-flash w)
+module _ (chip : Chip) (is : Computed chip) where
+  fresh-is : fresh-store chip ≡ laid-out chip
+  unfolding laid-out format
+  fresh-is =
+      ap (λ (f : Formatted). f .image) (format-done (fm chip) (new-flash chip) (is .lawful))
+      ∙ ap (λ (n : ℕ). run (size (fm chip)) (format-steps (chip .first) n) (new-flash chip)) (is .two)
+      ∙ run-laid (size (fm chip)) (format-steps (chip .first) 2) (new-flash chip) (is .all-within)
+
+  -- a write that is stopped after n of its steps ss, and what is left when the next fails
+  stopped : (n : ℕ) (ss : List Step) (i j : Image) → form-of chip i ≡ fm chip → write-number (fm chip) change i ≡ OK → write-of (fm chip) change i ≡ ss
+      → BytesLeft (size (fm chip)) 0 (drop (length (take n ss)) ss) (run (size (fm chip)) (take n ss) i) j
+      → Interrupted chip (by-the-rules chip) change i (length (take n ss)) j
+  unfolding write
+  stopped n ss i j by ok is l =
+      let done = write (fm chip) change n i in
+      let e : done ≡ _ = ap (λ (xs : List Step). stepped (fm chip) (write-number (fm chip) change i) n xs i) is
+      ∙ stepped-done (fm chip) (write-number (fm chip) change i) n ss i ok in
+      record {
+        after-write = j;
+        then = no-more;
+        write = record {
+          allowance = n;
+          done = done;
+          called = rw by;
+          accepted = ap (λ (s : Stepped). s .number) e;
+          counted = ap (λ (s : Stepped). s .steps) e;
+          fails = subst⁻¹ (λ (f : Form). FailsAfter f done (write-of f change i) j) by
+              (subst⁻¹ (λ (xs : List Step). FailsAfter (fm chip) done xs j) is (subst⁻¹ (λ (s : Stepped). FailsAfter (fm chip) s ss j) e l));
+        };
+      }
+
+  -- a failure in the second half of the record
+  second-fails : (c d : ℕ) → Rises 8 65 c → Rises 8 20 d → Interrupted chip (by-the-rules chip) change (fresh-store chip) 1 (with-second chip c d)
+  unfolding with-second least offset run
+  second-fails c d p q =
+      subst⁻¹ (λ (i : Image). Interrupted chip (by-the-rules chip) change i 1 (with-second chip c d)) fresh-is
+      (stopped 1 (program 0 3 first 5 0 ∷ program 0 3 second 65 20 ∷ []) (laid-out chip) (with-second chip c d) (is .edition) (is .accepted) (is .steps)
+      (failing (record { left = c ∷ d ∷ []; rises = byte p (byte q no-bytes); image = refl })))
+
+  such : SuchAStore chip
+  such =
+      record {
+        in-use = formatted (chip .first) (new-flash chip) (format (fm chip) (new-flash chip)) (is .has-first, refl)
+            (ap (λ (f : Formatted). f .number) (format-done (fm chip) (new-flash chip) (is .lawful)));
+        accepted = subst⁻¹ (λ (i : List ℕ). write-number (form-of chip i) change i ≡ OK) fresh-is
+            (subst⁻¹ (λ (f : Form). write-number f change (laid-out chip) ≡ OK) (is .edition) (is .accepted));
+        torn = record {
+          left = with-second chip 67 20;
+          cut = second-fails 67 20 value-rises (rises-refl 8 20);
+          record-left = is .torn;
+          reads = is .torn-reads;
+        };
+        complete = record {
+          left = with-second chip 65 20;
+          cut = second-fails 65 20 (rises-refl 8 65) (rises-refl 8 20);
+          record-left = is .whole;
+          reads = is .whole-reads;
+        };
+      }
 
 pub such-a-store : not-about-nothing
-unfolding has-edition
-such-a-store =
-    record {
-      in-use = formatted 1 new-flash (format this-form new-flash) (refl, refl) (format-accepted (computed .lawful));
-      accepted = subst⁻¹ (λ (i : List ℕ). write-number (form-of this-chip i) change i ≡ OK) fresh-is
-          (subst⁻¹ (λ (fm : Form). write-number fm change laid-out ≡ OK) (computed .edition) (computed .accepted));
-      torn = record {
-        left = with-second 67 20;
-        cut = second-fails 67 20 value-rises (rises-refl 8 20);
-        record-left = computed .torn;
-        reads = computed .torn-reads;
-      };
-      complete = record {
-        left = with-second 65 20;
-        cut = second-fails 65 20 (rises-refl 8 65) (rises-refl 8 20);
-        record-left = computed .whole;
-        reads = computed .whole-reads;
-      };
-    }
+such-a-store = (such smaller-chip (computed .0), such larger-chip (computed .1))

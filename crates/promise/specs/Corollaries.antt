@@ -13,8 +13,9 @@ use Rattle.rules.specs.Page.{Form, size, Chip, in-edition, Page, wear-place}
 use Rattle.rules.specs.Store.{states, base, used, is-cleared, page-at, count, used-orders, held, each, last-of, Setting, setting, records, open-group}
 use Rattle.rules.specs.Steps.{renew, renewed-wear, greatest-wear, renew-picked, unclean, format-steps, Change, single, group, settings-of, Way, stay}
 use Rattle.rules.specs.Steps.{append-to, open-at, move-to, taken, way}
-use Rattle.rules.specs.Call.{this-chip, Roomy, RoomyChip, form-of, held-limit, page-count, pages, wrong-size, store-number, repeats, all-used}
+use Rattle.rules.specs.Call.{Roomy, RoomyChip, form-of, held-limit, page-count, pages, wrong-size, store-number, repeats, all-used}
 use Rattle.rules.specs.Call.{write-number, OK, NOT-HELD, Reading, read, code, lookup, format}
+use Rattle.rules.specs.Named.{smaller-chip, larger-chip}
 use Rattle.rules.specs.Listing.{half, spoiled}
 use Rattle.promise.specs.Calls.{Image, pairing-code, finds, by-the-rules}
 use Rattle.promise.specs.History.{recovery-of, write-of, InUse, Interrupted}
@@ -169,52 +170,51 @@ abbrev pub no-slot-counts-twice : Type 0
 no-slot-counts-twice = (fm : Form) (i : Image)
     → half (pages fm i) + spoiled (pages fm i) ≤ count (used (base (states (pages fm i)))) (states (pages fm i)) * fm .slot-count
 
--- "How long can a write take?" It has at most 388 steps, and 3 for each page but one; and in a store of any number of pages, of the
--- form that there is, there is a write with so many.
+-- "How long can a write take?" It has at most 388 steps, and 3 for each page but one, of whatever size; and in a store of any number of
+-- pages, whatever their form, there is a write with so many.
 abbrev pub longest : (pages : ℕ) → ℕ
 longest n = 388 + 3 * (n - 1)
 
 abbrev pub no-write-is-longer : Type 0
 no-write-is-longer = (fm : Form) (i : Image) (c : Change) → write-number fm c i ≡ OK → length (write-of fm c i) ≤ longest (page-count fm i)
 
--- of the first edition
-abbrev pub this-form : Form
-this-form = in-edition this-chip 1
-
-pub record Longest (n : ℕ) : Type 0 where
+pub record Longest (fm : Form) (n : ℕ) : Type 0 where
   pub image : Image
   pub address : ℕ
   pub value : ℕ
-  pub so-many : page-count this-form image ≡ n
-  pub accepted : write-number this-form (single address value) image ≡ OK
-  pub long : length (write-of this-form (single address value) image) ≡ longest n
+  pub so-many : page-count fm image ≡ n
+  pub accepted : write-number fm (single address value) image ≡ OK
+  pub long : length (write-of fm (single address value) image) ≡ longest n
 
 abbrev pub a-longest-write : Type 0
-a-longest-write = (n : ℕ) → 2 ≤ n → n ≤ 32 → Longest n
+a-longest-write = (fm : Form) → Roomy fm → (n : ℕ) → 2 ≤ n → n ≤ 32 → Longest fm n
 
--- "Is there such a store at all?" Two freshly formatted pages are one, and accept the write of 65 at 5. A failure in its second
--- step, the second half of the record in slot 0 of page 0, may leave the record torn, as 05 00 43 14, and 5 is not held, as before;
--- or it may leave the record complete, and 5 holds 65.
-abbrev pub new-flash : Image
-new-flash = replicate 2048 255
+-- "Is there such a store at all?" On either chip: two freshly formatted pages are one, and accept the write of 65 at 5. A failure in
+-- its second step, the second half of the record in slot 0 of page 0, may leave the record torn, as 05 00 43 14, and 5 is not held, as
+-- before; or it may leave the record complete, and 5 holds 65.
+abbrev pub first-form : Chip → Form
+first-form chip = in-edition chip (chip .first)
 
-abbrev pub fresh-store : Image
-fresh-store = format this-form new-flash .image
+abbrev pub new-flash : Chip → Image
+new-flash chip = replicate (2 * size (first-form chip)) 255
+
+abbrev pub fresh-store : Chip → Image
+fresh-store chip = format (first-form chip) (new-flash chip) .image
 
 abbrev pub finds-nothing : Reading
 finds-nothing = record { number = NOT-HELD; value = 0 }
 
-pub record CutLeaving (record-bytes : List ℕ) (answer : Reading) : Type 0 where
+pub record CutLeaving (chip : Chip) (record-bytes : List ℕ) (answer : Reading) : Type 0 where
   pub left : Image
-  pub cut : Interrupted this-chip (by-the-rules this-chip) (single 5 65) fresh-store 1 left
+  pub cut : Interrupted chip (by-the-rules chip) (single 5 65) (fresh-store chip) 1 left
   pub record-left : bytes-at 12 4 left ≡ record-bytes
-  pub reads : read (form-of this-chip left) 5 left ≡ answer
+  pub reads : read (form-of chip left) 5 left ≡ answer
 
-pub record SuchAStore : Type 0 where
-  pub in-use : Used this-chip fresh-store
-  pub accepted : write-number (form-of this-chip fresh-store) (single 5 65) fresh-store ≡ OK
-  pub torn : CutLeaving (0x05 ∷ 0x00 ∷ 0x43 ∷ 0x14 ∷ []) finds-nothing
-  pub complete : CutLeaving (0x05 ∷ 0x00 ∷ 0x41 ∷ 0x14 ∷ []) (finds 65)
+pub record SuchAStore (chip : Chip) : Type 0 where
+  pub in-use : Used chip (fresh-store chip)
+  pub accepted : write-number (form-of chip (fresh-store chip)) (single 5 65) (fresh-store chip) ≡ OK
+  pub torn : CutLeaving chip (0x05 ∷ 0x00 ∷ 0x43 ∷ 0x14 ∷ []) finds-nothing
+  pub complete : CutLeaving chip (0x05 ∷ 0x00 ∷ 0x41 ∷ 0x14 ∷ []) (finds 65)
 
 abbrev pub not-about-nothing : Type 0
-not-about-nothing = SuchAStore
+not-about-nothing = SuchAStore smaller-chip × SuchAStore larger-chip

@@ -12,7 +12,7 @@ ghost use mathlib.Core.List.{List};
 ghost use Prim.Native.Nat.{ℕ, _≤_, _<_};
 ghost use lib.ListN.{length};
 ghost use Rattle.rules.specs.Store.{Setting, Rising, last-of};
-ghost use Rattle.rules.specs.Call.{read, blank-read, code, pairing, lookup};
+ghost use Rattle.rules.specs.Call.{refused-reading, refused-lookup, read, blank-read, code, pairing, lookup};
 ghost use Rattle.pages.specs.Read.{as-form, Lawful};
 ghost use Rattle.settings.specs.Held.{Holds};
 ghost use Rattle.reading.specs.Answers.{as-reading, as-pairing, digit-of};
@@ -36,6 +36,26 @@ pub struct Pairing {
 // What a blank read gives of an address that is not held.
 const BLANK: u8 = 0;
 
+// N22. A refusal answers its number, and nothing else.
+pub fn refused(number: u8) -> Reading
+    ensures { λ r. ⌜ as-reading r ≡ refused-reading number ⌝ }
+{
+    Reading { number, value: 0 }
+}
+
+pub fn refused_lookup(number: u8) -> Pairing
+    ensures { λ r. ⌜ as-pairing r ≡ refused-lookup number ⌝ }
+{
+    Pairing {
+        number,
+        paired: false,
+        digit0: 0,
+        digit1: 0,
+        digit2: 0,
+        digit3: 0,
+    }
+}
+
 pub fn read(image: &[u8], form: Form, address: u16) -> Reading
     requires { ⌜ Lawful form ⌝ }
     ensures { λ r. ⌜ as-reading r ≡ read (as-form form) address (now (image .entry)) ⌝ }
@@ -45,20 +65,14 @@ pub fn read(image: &[u8], form: Form, address: u16) -> Reading
     let store = store::open(image, form, &mut addresses, &mut values);
     let number = store.number;
     if number != OK {
-        return Reading { number, value: 0 };
+        return refused(number);
     }
     if address == NO_ADDRESS {
-        return Reading {
-            number: ADDRESS,
-            value: 0,
-        };
+        return refused(ADDRESS);
     }
     match settings::value_in(&addresses, &values, address) {
         Held::Value(value) => Reading { number: OK, value },
-        Held::Nothing => Reading {
-            number: NOT_HELD,
-            value: 0,
-        },
+        Held::Nothing => refused(NOT_HELD),
     }
 }
 
@@ -125,14 +139,7 @@ pub fn lookup(image: &[u8], form: Form) -> Pairing
     let store = store::open(image, form, &mut addresses, &mut values);
     let number = store.number;
     if number != OK {
-        return Pairing {
-            number,
-            paired: false,
-            digit0: 0,
-            digit1: 0,
-            digit2: 0,
-            digit3: 0,
-        };
+        return refused_lookup(number);
     }
     pairing_of(&addresses, &values)
 }

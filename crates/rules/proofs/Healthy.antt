@@ -68,7 +68,7 @@ abbrev pub frame : (fm : Form) → Roomy fm → (May One : Type 0) (n : ℕ) →
 frame fm roomy May One n two = record { form = fm; pages = n; limit = held-limit; May = May; One = One; two = two; ten = omega arith; fits = omega arith }
 
 -- an image of so many pages has these
-sized-count : (fm : Form) (n : ℕ) (i : List ℕ) → length i ≡ n * size fm → page-count fm i ≡ n
+pub sized-count : (fm : Form) (n : ℕ) (i : List ℕ) → length i ≡ n * size fm → page-count fm i ≡ n
 unfolding page-count
 sized-count fm n i l = ap (λ (m : ℕ). m / size fm) l ∙ mul-div-cancel n (omega arith)
 

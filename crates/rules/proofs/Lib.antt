@@ -22,6 +22,7 @@ pub mod Rows
 pub mod Ready
 pub mod Held
 pub mod Answers
+pub mod Named
 pub mod Good
 pub mod Appending
 pub mod Recovering

@@ -1,4 +1,4 @@
--- C and N: the whole outcome of each call, accepted or refused.
+-- C and N: the whole outcome of each call on pages of a form, accepted or refused.
 use Prim.Native.Nat.{ℕ, zero, suc, _+_, _*_, _/_, _%_, _≤_, _<_}
 use mathlib.Core.Bool.{Bool, true, false, cond, not, _&&_, _||_}
 use mathlib.Core.List.{List, [], _∷_, _++_, map}
@@ -11,10 +11,6 @@ use Rattle.rules.specs.Page.{Form, size, Chip, in-edition, State, wear-p
 use Rattle.rules.specs.Store.{states, base, used, is-open, used-orders, active-order, count, held, value, or-value, Setting, setting}
 use Rattle.rules.specs.Store.{address-of, has-room, open-group}
 use Rattle.rules.specs.Steps.{format-steps, recovery-steps, write-steps, unclean, Change, single, group, settings-of, words-of, all-values}
-
--- P1. the one chip that there is: pages of 1,024 bytes, and so 253 slots, of the first edition or the second
-abbrev pub this-chip : Chip
-this-chip = record { slot-count = 253; first = 1; last = 2 }
 
 -- S7. how many addresses may be held; W8. the last order
 abbrev pub held-limit : ℕ
@@ -228,10 +224,22 @@ pub record Pairing : Type 0 where
 unfoldable pub accepted : ℕ → Bool
 accepted number = eqb number OK
 
+abbrev pub refused-format : (number : ℕ) → List ℕ → Formatted
+refused-format number i = record { number = number; image = i }
+
+abbrev pub refused-steps : (number : ℕ) → List ℕ → Stepped
+refused-steps number i = record { number = number; steps = 0; finished = false; image = i }
+
+abbrev pub refused-reading : (number : ℕ) → Reading
+refused-reading number = record { number = number; value = 0 }
+
+abbrev pub refused-lookup : (number : ℕ) → Pairing
+refused-lookup number = record { number = number; paired = false; digits = 0 ∷ 0 ∷ 0 ∷ 0 ∷ [] }
+
 -- C5. Format does all its steps.
 unfoldable pub format : (form : Form) → List ℕ → Formatted
 format f i =
-    cond (wrong-size f i) (record { number = SIZE; image = i })
+    cond (wrong-size f i) (refused-format SIZE i)
     (record { number = OK; image = run (size f) (format-steps (f .edition) (page-count f i)) i })
 
 -- C15. Allowance: that many of the steps are done, or all if there are no more; finished if none is left.
@@ -239,7 +247,7 @@ unfoldable pub stepped : (form : Form) (number allowance : ℕ) → List Step �
 stepped f number n ss i =
     cond (accepted number)
     (record { number = number; steps = length (take n ss); finished = leb (length ss) n; image = run (size f) (take n ss) i })
-    (record { number = number; steps = 0; finished = false; image = i })
+    (refused-steps number i)
 
 -- C1. The settings that lent bytes are: three for each, its address, low byte first, and its value. The group that they are: of no
 -- settings if 3 does not divide their number.
@@ -258,7 +266,7 @@ recover f n i = stepped f (store-number f i) n (recovery-steps (f .edition) (pag
 unfoldable pub write : (form : Form) → Change → (allowance : ℕ) → List ℕ → Stepped
 write f c n i = stepped f (write-number f c i) n (write-steps (f .edition) c (pages f i)) i
 
--- a reading: refused, it has value 0
+-- a reading, accepted or refused
 unfoldable pub reading : (number value : ℕ) → Reading
 reading number v = record { number = number; value = cond (accepted number) v 0 }
 
@@ -287,4 +295,4 @@ pairing os = record { number = OK; paired = all-held os; digits = map blank-valu
 unfoldable pub lookup : (form : Form) → List ℕ → Pairing
 lookup f i =
     cond (accepted (store-number f i)) (pairing (code (λ a. value a (pages f i))))
-    (record { number = store-number f i; paired = false; digits = 0 ∷ 0 ∷ 0 ∷ 0 ∷ [] })
+    (refused-lookup (store-number f i))

@@ -5,4 +5,5 @@ pub mod Page
 pub mod Store
 pub mod Steps
 pub mod Call
+pub mod Named
 pub mod Listing

@@ -1,17 +1,24 @@
 -- The number of an image's pages, test by test. Assumes nothing.
 use Prim.Native.Nat.{ℕ, _/_, _%_, _≤_, _<_}
-use mathlib.Core.Path.{_≡_, refl, ap, _∙_}
+use mathlib.Core.Path.{_≡_, refl, sym, ap, _∙_, subst}
 use mathlib.Core.Logic.{inl, inr}
 use mathlib.Core.Bool.{true, false}
 use mathlib.Core.List.{List}
+use mathlib.Core.Option.{some, Option·some-injective}
 use native.Mathlib.Omega.{arith}
 use lib.ListN.{length}
 use borrow.Author.Tests.{eq-eqb, ne-eqb, lt-ltb, le-ltb}
-use Rattle.rules.specs.Page.{Form, size}
-use Rattle.rules.specs.Call.{page-count, wrong-size}
+use Rattle.rules.specs.Page.{Form, size, Chip, in-edition}
+use Rattle.rules.specs.Call.{form-of, page-count, wrong-size}
 use Rattle.rules.proofs.Truth.{by-cases}
 use Rattle.rules.proofs.Ready.{right-sizes}
-use Rattle.survey.specs.States.{Counted}
+use Rattle.rules.specs.Named.{chip-of, on-chip}
+use Rattle.rules.proofs.Named.{on-named, on-wrong}
+use Rattle.pages.specs.declared.Form.{Form as Numbers}
+use Rattle.pages.specs.Read.{as-form, Lawful}
+use Rattle.survey.specs.States.{Counted, SizedOn, SizedAt}
+use Rattle.survey.specs.declared.Sized.{Sized}
+use Rattle.survey.specs.declared.Sized.the-variants.{Right, Wrong}
 
 -- s is the page size, as it was computed
 module _ (fm : Form) (i : List ℕ) (s : ℕ) (is : s ≡ size fm) where
@@ -54,3 +61,33 @@ module _ (fm : Form) (i : List ℕ) where
 
   pub counted-some : {r : ℕ} → Counted fm i r → (r ≡ 0 → ⊥) → (wrong-size fm i ≡ false) × (r ≡ page-count fm i)
   counted-some {r} k ne = by-cases (wrong-size fm i) (λ w. absurd (ne (k .count ∙ rw w))) (λ w. (w, k .count ∙ rw w))
+
+-- a size is wrong or right whatever the edition
+pub wrong-in-all : (chip : Chip) (e : ℕ) (f : Form) (i : List ℕ) → f ≡ in-edition chip e → wrong-size f i ≡ true
+    → (edition : ℕ) → wrong-size (in-edition chip edition) i ≡ true
+unfolding wrong-size page-count
+wrong-in-all chip e f i is w edition = rw is at w
+
+-- what is read on the chip of a page size is read at that size
+pub on-its-chip : (n : ℕ) (i : List ℕ) (chip : Chip) → chip-of n ≡ some chip → (r : Sized) → SizedOn chip i r → SizedAt n i r
+on-its-chip n i chip e (Right form) h = (chip, e, h)
+on-its-chip n i chip e Wrong h =
+    λ c g edition. subst (λ (d : Chip). wrong-size (in-edition d edition) i ≡ true) (Option·some-injective chip c (sym e ∙ g)) (h edition)
+
+-- what a call is then, of any outcome: that of the form, or a refusal
+module _ (n : ℕ) (i : List ℕ) {r : Sized} (h : SizedAt n i r) where
+  pub sized-lawful : {form : Numbers} → r ≡ Right form → Lawful form
+  sized-lawful is = subst (SizedAt n i) is h .2 .1
+
+  module _ {A : Type 0} (refused : A) (call : Form → A) {x : A} where
+    pub sized-right : {form : Numbers} → r ≡ Right form → x ≡ call (as-form form) → x ≡ on-chip (chip-of n) refused (λ c. call (form-of c i))
+    sized-right is e =
+        let on = subst (SizedAt n i) is h in
+        e ∙ ap call (on .2 .0) ∙ sym (on-named (chip-of n) (on .0) (on .1) refused (λ c. call (form-of c i)))
+
+    pub sized-wrong : r ≡ Wrong → ((f : Form) → wrong-size f i ≡ true → call f ≡ refused) → x ≡ refused
+        → x ≡ on-chip (chip-of n) refused (λ c. call (form-of c i))
+    unfolding form-of
+    sized-wrong is refuses e =
+        let none = subst (SizedAt n i) is h in
+        e ∙ sym (on-wrong (chip-of n) refused (λ c. call (form-of c i)) (λ c g. refuses (form-of c i) (none c g _)))

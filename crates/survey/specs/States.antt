@@ -2,13 +2,18 @@
 use Prim.Native.Nat.{ℕ, _-_, _*_, _≤_, _<_}
 use mathlib.Core.Path.{_≡_}
 use mathlib.Core.Logic.{_⊎_}
-use mathlib.Core.Bool.{cond}
+use mathlib.Core.Bool.{true, cond}
 use mathlib.Core.List.{List, [], _∷_, _++_}
+use mathlib.Core.Option.{some}
 use lib.ListN.{length, replicate}
 use Rattle.rules.specs.Word.{Word}
-use Rattle.rules.specs.Page.{Form, size, State, slots}
+use Rattle.rules.specs.Page.{Form, size, Chip, in-edition, State, slots}
 use Rattle.rules.specs.Store.{states, order}
-use Rattle.rules.specs.Call.{page-count, wrong-size, first-pages, page-in}
+use Rattle.rules.specs.Call.{form-of, page-count, wrong-size, first-pages, page-in}
+use Rattle.rules.specs.Named.{chip-of}
+use Rattle.pages.specs.Read.{as-form, Lawful}
+use Rattle.survey.specs.declared.Sized.{Sized}
+use Rattle.survey.specs.declared.Sized.the-variants.{Right, Wrong}
 
 -- The number r of an image's pages, 0 if its size is wrong.
 pub record Counted (fm : Form) (i : List ℕ) (r : ℕ) : Type 0 where
@@ -16,6 +21,15 @@ pub record Counted (fm : Form) (i : List ℕ) (r : ℕ) : Type 0 where
   pub most : r ≤ 32
   pub within : r * size fm ≤ length i
   pub whole : (r ≡ 0) ⊎ ((length i ≡ r * size fm) × (2 ≤ r))
+
+-- The form by which an image is read on a chip, if its size is right there; and at a page size, if that names a chip.
+abbrev pub SizedOn : Chip → List ℕ → Sized → Type 0
+SizedOn c i (Right form) = (as-form form ≡ form-of c i) × Lawful form
+SizedOn c i Wrong = (edition : ℕ) → wrong-size (in-edition c edition) i ≡ true
+
+abbrev pub SizedAt : (page-size : ℕ) → List ℕ → Sized → Type 0
+SizedAt n i (Right form) = (c : Chip) × (chip-of n ≡ some c) × SizedOn c i (Right form)
+SizedAt n i Wrong = (c : Chip) → chip-of n ≡ some c → SizedOn c i Wrong
 
 -- the states of the first n pages of an image
 unfoldable pub first-states : (form : Form) (n : ℕ) → List ℕ → List State

@@ -51,7 +51,7 @@ fn done(steps: u16, allowance: u16) -> Stepped
     }
 }
 
-fn refused(number: u8) -> Stepped
+pub fn refused(number: u8) -> Stepped
     ensures { λ r. ⌜ (r .number ≡ number) × (r .steps ≡ 0) × (r .finished ≡ false) ⌝ }
 {
     Stepped {

@@ -179,34 +179,35 @@ const SPOILED: Word = [0; 4];
 type Begun = (u8, Vec<Slot>);
 
 impl Plan for WrongGroup {
-    fn format_steps(&self, image: &[u8], edition: Edition) -> Result<Vec<Step>, u8> {
-        match self {
-            WrongGroup::FormatsFirst => format_steps(image, Edition::First),
-            WrongGroup::FormatsSecond => format_steps(image, Edition::Second),
-            _ => format_steps(image, edition),
-        }
+    fn format_steps(&self, image: &[u8], chip: Chip, second_edition: bool) -> Result<Vec<Step>, u8> {
+        let told = match self {
+            WrongGroup::FormatsFirst => false,
+            WrongGroup::FormatsSecond => true,
+            _ => second_edition,
+        };
+        format_steps(image, chip, chip.told(told))
     }
 
-    fn recovery_steps(&self, image: &[u8]) -> Result<Vec<Step>, u8> {
-        let seen = self.seen(image);
-        let mut steps = recovery_steps(&seen)?;
-        if let Some((page, slot)) = slot_to_abandon(&seen) {
+    fn recovery_steps(&self, image: &[u8], chip: Chip) -> Result<Vec<Step>, u8> {
+        let seen = self.seen(image, chip);
+        let mut steps = recovery_steps(&seen, chip)?;
+        if let Some((page, slot)) = slot_to_abandon(&seen, chip) {
+            let active = page_at(&seen, chip, page);
             match self {
                 WrongGroup::NoAbandon => steps = steps.split_off(2),
                 WrongGroup::AbandonsLast => steps.rotate_left(2),
                 WrongGroup::ClosesInstead => {
-                    let open = groups(&slots(page_at(&seen, page), Edition::Second)).pop().expect("a group is open");
-                    steps[..2].copy_from_slice(&slot_steps(page, slot, mark_word(Mark::Closes(open.records))));
+                    let open = groups(&slots(active, Edition::Second)).pop().expect("a group is open");
+                    steps[..2].copy_from_slice(&slot_steps(chip, page, slot, mark_word(Mark::Closes(open.records))));
                 }
                 WrongGroup::AbandonsInFirstBlank => {
-                    let blank = (0..SLOTS).find(|&slot| is_blank(slot_word(page_at(&seen, page), slot)));
-                    let first = blank.expect("a slot is free");
-                    steps[..2].copy_from_slice(&slot_steps(page, first, mark_word(Mark::Abandons)));
+                    let first = slot_words(active).position(is_blank).expect("a slot is free");
+                    steps[..2].copy_from_slice(&slot_steps(chip, page, first, mark_word(Mark::Abandons)));
                 }
                 _ => {}
             }
         }
-        Ok(self.renewed(&seen, steps))
+        Ok(self.renewed(&seen, chip, steps))
     }
 
     fn group(&self, bytes: &[u8]) -> Change {
@@ -216,24 +217,24 @@ impl Plan for WrongGroup {
         }
     }
 
-    fn change_steps(&self, image: &[u8], change: &Change) -> Result<Vec<Step>, u8> {
-        let seen = self.seen(image);
-        self.test(&seen, change)?;
-        Ok(self.renewed(&seen, self.steps(&seen, change)))
+    fn change_steps(&self, image: &[u8], chip: Chip, change: &Change) -> Result<Vec<Step>, u8> {
+        let seen = self.seen(image, chip);
+        self.test(&seen, chip, change)?;
+        Ok(self.renewed(&seen, chip, self.steps(&seen, chip, change)))
     }
 
-    fn seen(&self, image: &[u8]) -> Vec<u8> {
+    fn seen(&self, image: &[u8], chip: Chip) -> Vec<u8> {
         let mut seen = image.to_vec();
         match self {
-            _ if test_size(image).is_err() => {}
-            WrongGroup::BothEditionsRead => put_into(&mut seen, edition(image)),
+            _ if test_size(image, chip).is_err() => {}
+            WrongGroup::BothEditionsRead => put_into(&mut seen, chip, edition(image, chip)),
             WrongGroup::HighestIndexDecides => {
-                keep(&mut seen, image.chunks_exact(PAGE_BYTES).rev().find_map(open_by_itself));
+                keep(&mut seen, chip, chip.pages(image).rev().find_map(|page| open_by_itself(page, chip)));
             }
             WrongGroup::LowestWearDecides => {
-                keep(&mut seen, image.chunks_exact(PAGE_BYTES).find_map(edition_of_wear));
+                keep(&mut seen, chip, chip.pages(image).find_map(|page| edition_of_wear(page, chip)));
             }
-            _ if self.counts_anew() => self.count_anew(&mut seen),
+            _ if self.counts_anew() => self.count_anew(&mut seen, chip),
             _ => {}
         }
         seen
@@ -241,8 +242,8 @@ impl Plan for WrongGroup {
 }
 
 impl WrongGroup {
-    fn test(self, seen: &[u8], change: &Change) -> Result<(), u8> {
-        let right = test_change(seen, change);
+    fn test(self, seen: &[u8], chip: Chip, change: &Change) -> Result<(), u8> {
+        let right = test_change(seen, chip, change);
         if matches!(right, Err(SIZE | NO_STORE | DAMAGED)) {
             return right;
         }
@@ -250,62 +251,64 @@ impl WrongGroup {
         let few = settings.len() <= MOST_IN_A_GROUP;
         let grouped = matches!(change, Change::Group(_));
         match (self, right) {
-            (WrongGroup::DeadIsUnclean, _) if has_dead_group(seen) => Err(UNCLEAN),
-            (WrongGroup::OpenBelowIsUnclean, _) if has_open_group_below(seen) => Err(UNCLEAN),
-            (WrongGroup::GroupBeforeUnclean, Err(UNCLEAN)) => test_group(seen, change).and(right),
+            (WrongGroup::DeadIsUnclean, _) if has_dead_group(seen, chip) => Err(UNCLEAN),
+            (WrongGroup::OpenBelowIsUnclean, _) if has_open_group_below(seen, chip) => Err(UNCLEAN),
+            (WrongGroup::GroupBeforeUnclean, Err(UNCLEAN)) => test_group(seen, chip, change).and(right),
             (WrongGroup::AddressBeforeGroup, Err(GROUP)) if change.names(NO_ADDRESS) => Err(ADDRESS),
-            (WrongGroup::FirstTakesGroups, Err(GROUP)) => {
+            (WrongGroup::FirstTakesGroups, Err(GROUP)) if edition(seen, chip) == Edition::First => {
                 let mut second = seen.to_vec();
-                put_into(&mut second, Edition::Second);
-                test_change(&second, change)
+                put_into(&mut second, chip, Edition::Second);
+                test_change(&second, chip, change)
             }
-            (WrongGroup::NoneTaken, Err(GROUP)) if settings.is_empty() && edition(seen) == Edition::Second => Ok(()),
+            (WrongGroup::NoneTaken, Err(GROUP)) if settings.is_empty() && edition(seen, chip).has_groups() => Ok(()),
             (WrongGroup::NineTaken, Err(GROUP)) if settings.len() == 9 => {
-                test_change(seen, &Change::Group(settings[..8].to_vec()))
+                test_change(seen, chip, &Change::Group(settings[..8].to_vec()))
             }
-            (WrongGroup::RepeatedTaken, Err(GROUP)) if few => test_change(seen, &each_once(settings)),
+            (WrongGroup::RepeatedTaken, Err(GROUP)) if few => test_change(seen, chip, &each_once(settings)),
             (WrongGroup::RepeatedApartTaken, Err(GROUP)) if few && neighbours_differ(settings) => {
-                test_change(seen, &each_once(settings))
+                test_change(seen, chip, &each_once(settings))
             }
             (WrongGroup::FirstAddressTested, Err(ADDRESS)) if settings[0].0 != NO_ADDRESS => Ok(()),
-            (WrongGroup::NewCountAsOne, Err(NO_ROOM)) if held(seen).len() < MOST_HELD => Ok(()),
+            (WrongGroup::NewCountAsOne, Err(NO_ROOM)) if held(seen, chip).len() < MOST_HELD => Ok(()),
             (WrongGroup::HeldCountAsNew, Ok(()) | Err(ORDER_END))
-                if grouped && held(seen).len() + settings.len() > MOST_HELD =>
+                if grouped && held(seen, chip).len() + settings.len() > MOST_HELD =>
             {
                 Err(NO_ROOM)
             }
-            (WrongGroup::HeldTestedForOrderEnd, Ok(())) if grouped && is_at_the_end(seen, change) => Err(ORDER_END),
-            (WrongGroup::OrderEndForOneSlot, Err(ORDER_END)) if free_slots_of_active(seen) > 0 => Ok(()),
+            (WrongGroup::HeldTestedForOrderEnd, Ok(())) if grouped && is_at_the_end(seen, chip, change) => {
+                Err(ORDER_END)
+            }
+            (WrongGroup::OrderEndForOneSlot, Err(ORDER_END)) if free_slots_of_active(seen, chip) > 0 => Ok(()),
             _ => right,
         }
     }
 
-    fn steps(self, seen: &[u8], change: &Change) -> Vec<Step> {
+    fn steps(self, seen: &[u8], chip: Chip, change: &Change) -> Vec<Step> {
         let Change::Group(settings) = change else {
-            return accepted_steps(seen, change);
+            return accepted_steps(seen, chip, change);
         };
-        let fuller = with_a_full_page(seen);
-        let just_enough = free_slots_of_active(seen) == change.words().len();
+        let fuller = with_a_full_page(seen, chip);
+        let just_enough = free_slots_of_active(seen, chip) == change.words().len();
         let seen = if self == WrongGroup::JustEnoughIsTooFew && just_enough { &fuller } else { seen };
-        let held = held(seen);
+        let held = held(seen, chip);
         let is_held = |(address, value): &Setting| held.get(address) == Some(value);
         let enough_held = match self {
             WrongGroup::OneHeldSuffices => settings.iter().any(is_held),
             _ => settings.iter().all(is_held),
         };
         // A test that is wrong may let a group pass for which there is no order.
-        if enough_held || is_at_the_end(seen, change) {
+        if enough_held || is_at_the_end(seen, chip, change) {
             return Vec::new();
         }
-        let free = free_slots_of_active(seen);
+        let free = free_slots_of_active(seen, chip);
         let fits = free >= change.words().len();
         match self {
             WrongGroup::HeldLeftOut => {
                 let others = settings.iter().filter(|setting| !is_held(setting)).copied().collect();
-                accepted_steps(seen, &Change::Group(others))
+                accepted_steps(seen, chip, &Change::Group(others))
             }
-            WrongGroup::Split if free > 2 && !fits => split(seen, settings, free - 2),
-            _ => placing_steps(seen, &self.words(change, free), || self.moved_words(seen, change)),
+            WrongGroup::Split if free > 2 && !fits => split(seen, chip, settings, free - 2),
+            _ => placing_steps(seen, chip, &self.words(change, free), || self.moved_words(seen, chip, change)),
         }
     }
 
@@ -325,25 +328,25 @@ impl WrongGroup {
         }
     }
 
-    fn moved_words(self, seen: &[u8], change: &Change) -> Vec<Word> {
+    fn moved_words(self, seen: &[u8], chip: Chip, change: &Change) -> Vec<Word> {
         let mut settings = change.settings().to_vec();
         settings.sort();
         let by_address = Change::Group(settings);
         match self {
-            WrongGroup::MovesByAddress => [copies(seen, change), by_address.records()].concat(),
-            WrongGroup::MovesWithMarks => [copies(seen, change), change.words()].concat(),
-            WrongGroup::MovesAll => [copies(seen, &Change::Group(Vec::new())), change.records()].concat(),
-            _ => [copies(seen, change), change.records()].concat(),
+            WrongGroup::MovesByAddress => [copies(seen, chip, change), by_address.records()].concat(),
+            WrongGroup::MovesWithMarks => [copies(seen, chip, change), change.words()].concat(),
+            WrongGroup::MovesAll => [copies(seen, chip, &Change::Group(Vec::new())), change.records()].concat(),
+            _ => [copies(seen, chip, change), change.records()].concat(),
         }
     }
 
     /// The steps with the wear words that this store programs: they follow the erase in the list.
-    fn renewed(self, seen: &[u8], mut steps: Vec<Step>) -> Vec<Step> {
+    fn renewed(self, seen: &[u8], chip: Chip, mut steps: Vec<Step>) -> Vec<Step> {
         let mut now = seen.to_vec();
         for at in 0..steps.len() {
-            if let Step::Erase { page } = steps[at] {
-                let offset = page * PAGE_BYTES + WEAR_OFFSET;
-                let word = self.new_wear_word(&now, edition(seen), page);
+            if let Step::Erase { page, .. } = steps[at] {
+                let offset = chip.page_range(page).start + WEAR_OFFSET;
+                let word = self.new_wear_word(&now, chip, edition(seen, chip), page);
                 steps[at + 1..at + 3].copy_from_slice(&program_word_steps(offset, word));
             }
             do_step(&mut now, steps[at]);
@@ -352,12 +355,12 @@ impl WrongGroup {
     }
 
     /// The wear word that a page gets, by the image just before its erase and the edition at the call.
-    fn new_wear_word(self, now: &[u8], at_call: Edition, page: usize) -> Word {
-        let turned = edition(now);
+    fn new_wear_word(self, now: &[u8], chip: Chip, at_call: Edition, page: usize) -> Word {
+        let turned = edition(now, chip);
         match self {
-            WrongGroup::RenewsFirst => wear_word(next_wear(now, at_call, page), Edition::First),
-            WrongGroup::EditionTurns => wear_word(next_wear(now, turned, page), turned),
-            _ => wear_word(next_wear(now, at_call, page), at_call),
+            WrongGroup::RenewsFirst => wear_word(next_wear(now, chip, at_call, page), chip.editions[0]),
+            WrongGroup::EditionTurns => wear_word(next_wear(now, chip, turned, page), turned),
+            _ => wear_word(next_wear(now, chip, at_call, page), at_call),
         }
     }
 
@@ -383,13 +386,13 @@ impl WrongGroup {
     }
 
     /// Makes the used pages say by the rules what they say to this store. Their free slots stay.
-    fn count_anew(self, image: &mut [u8]) {
-        let edition = edition(image);
+    fn count_anew(self, image: &mut [u8], chip: Chip) {
+        let edition = edition(image, chip);
         let mut begun = None;
-        for used in used_pages(image).iter().rev() {
-            let page = &mut image[used.page * PAGE_BYTES..(used.page + 1) * PAGE_BYTES];
+        for used in used_pages(image, chip).iter().rev() {
+            let page = &mut image[chip.page_range(used.page)];
             let (records, open) = self.records(page, edition, begun);
-            let is_open = open.is_some() && edition == Edition::Second && self != WrongGroup::OpenIsNothing;
+            let is_open = open.is_some() && edition.has_groups() && self != WrongGroup::OpenIsNothing;
             begun = open.filter(|_| self == WrongGroup::GoesOn);
             put_records(page, &records, is_open);
         }
@@ -398,7 +401,7 @@ impl WrongGroup {
     /// The records of a page that count, and the group that is open at its end.
     fn records(self, page: &[u8], edition: Edition, mut group: Option<Begun>) -> (Vec<Setting>, Option<Begun>) {
         let mut counted = Vec::new();
-        for slot in (0..SLOTS).map(|slot| self.slot_in(slot_word(page, slot), edition)) {
+        for slot in slot_words(page).map(|word| self.slot_in(word, edition)) {
             match (slot, &mut group) {
                 (Slot::Mark(Mark::Opens(records)), None) => group = Some((records, Vec::new())),
                 (Slot::Mark(Mark::Opens(records)), Some(_)) if self == WrongGroup::NestedBegins => {
@@ -424,7 +427,7 @@ impl WrongGroup {
     fn slot_in(self, word: Word, edition: Edition) -> Slot {
         match (self, slot_in(word, edition)) {
             (WrongGroup::MarksInBothEditions, _) => slot_in(word, Edition::Second),
-            (WrongGroup::EveryValueIsAMark, Slot::Spoiled) if is_sound(word) && edition == Edition::Second => {
+            (WrongGroup::EveryValueIsAMark, Slot::Spoiled) if is_sound(word) && edition.has_groups() => {
                 Slot::Mark(if word[2] < 128 { Mark::Opens(word[2]) } else { Mark::Closes(word[2] - 128) })
             }
             (_, slot) => slot,
@@ -478,55 +481,56 @@ fn put_records(page: &mut [u8], records: &[Setting], open: bool) {
     page[slot_offset(0)..][..words.len()].copy_from_slice(&words);
 }
 
-/// Gives all pages of either edition this one.
-fn put_into(image: &mut [u8], edition: Edition) {
-    for page in image.chunks_exact_mut(PAGE_BYTES) {
-        if let Some(wear) = EDITIONS.into_iter().find_map(|edition| wear(page, edition)) {
+/// Gives all pages of an edition of the chip this one.
+fn put_into(image: &mut [u8], chip: Chip, edition: Edition) {
+    for page in chip.pages_mut(image) {
+        if let Some(wear) = chip.editions.iter().find_map(|&edition| wear(page, edition)) {
             page[..OPENING_OFFSET].copy_from_slice(&wear_word(wear, edition));
         }
     }
 }
 
-fn edition_of_wear(page: &[u8]) -> Option<Edition> {
-    EDITIONS.into_iter().find(|&edition| wear(page, edition).is_some())
+fn edition_of_wear(page: &[u8], chip: Chip) -> Option<Edition> {
+    chip.editions.iter().copied().find(|&edition| wear(page, edition).is_some())
 }
 
 /// Takes all wear words but those of this edition, so that it is the store's.
-fn keep(image: &mut [u8], edition: Option<Edition>) {
+fn keep(image: &mut [u8], chip: Chip, edition: Option<Edition>) {
     let Some(edition) = edition else {
         return;
     };
-    for page in image.chunks_exact_mut(PAGE_BYTES) {
+    for page in chip.pages_mut(image) {
         if wear(page, edition).is_none() {
             page[..OPENING_OFFSET].copy_from_slice(&SPOILED);
         }
     }
 }
 
-fn free_slots_of_active(image: &[u8]) -> usize {
-    free_slots(page_at(image, active_page(image).page)).len()
+fn free_slots_of_active(image: &[u8], chip: Chip) -> usize {
+    free_slots(page_at(image, chip, active_page(image, chip).page)).len()
 }
 
 /// The image as if the last slot of the active page were taken.
-fn with_a_full_page(image: &[u8]) -> Vec<u8> {
+fn with_a_full_page(image: &[u8], chip: Chip) -> Vec<u8> {
     let mut fuller = image.to_vec();
-    let last = active_page(image).page * PAGE_BYTES + slot_offset(SLOTS - 1);
-    fuller[last..last + 4].copy_from_slice(&SPOILED);
+    let end = chip.page_range(active_page(image, chip).page).end;
+    fuller[end - 4..end].copy_from_slice(&SPOILED);
     fuller
 }
 
 /// Whether the change needs a page for which there is no order.
-fn is_at_the_end(image: &[u8], change: &Change) -> bool {
-    active_page(image).order == LAST_ORDER && free_slots_of_active(image) < change.words().len()
+fn is_at_the_end(image: &[u8], chip: Chip, change: &Change) -> bool {
+    active_page(image, chip).order == LAST_ORDER && free_slots_of_active(image, chip) < change.words().len()
 }
 
-fn has_dead_group(image: &[u8]) -> bool {
-    let active = page_at(image, active_page(image).page);
-    has_open_group(active, edition(image)) && free_slots(active).is_empty()
+fn has_dead_group(image: &[u8], chip: Chip) -> bool {
+    let active = page_at(image, chip, active_page(image, chip).page);
+    has_open_group(active, edition(image, chip)) && free_slots(active).is_empty()
 }
 
-fn has_open_group_below(image: &[u8]) -> bool {
-    used_pages(image)[1..].iter().any(|used| has_open_group(page_at(image, used.page), edition(image)))
+fn has_open_group_below(image: &[u8], chip: Chip) -> bool {
+    let below = &used_pages(image, chip)[1..];
+    below.iter().any(|used| has_open_group(page_at(image, chip, used.page), edition(image, chip)))
 }
 
 /// The first setting of each address.
@@ -545,11 +549,11 @@ fn neighbours_differ(settings: &[Setting]) -> bool {
 }
 
 /// The first of the settings as one group, the others as another.
-fn split(image: &[u8], settings: &[Setting], first: usize) -> Vec<Step> {
+fn split(image: &[u8], chip: Chip, settings: &[Setting], first: usize) -> Vec<Step> {
     let [first, others] = <[_; 2]>::from(settings.split_at(first)).map(|part| Change::Group(part.to_vec()));
-    let mut steps = accepted_steps(image, &first);
+    let mut steps = accepted_steps(image, chip, &first);
     let mut now = image.to_vec();
     steps.iter().for_each(|&step| do_step(&mut now, step));
-    steps.extend(accepted_steps(&now, &others));
+    steps.extend(accepted_steps(&now, chip, &others));
     steps
 }

@@ -1,23 +1,47 @@
--- `istrovell::istrovell_blank_read` meets its contract: the image is read by the form that it has. Assumes nothing.
-use mathlib.Core.Path.{ap, _∙_}
+-- `istrovell::istrovell_blank_read` meets its contract: the image is read by the form that it has at the page size. Assumes nothing.
 use denote.Ref.{now}
 use borrow.Author.Needs.{needs}
-use Rattle.rules.specs.Page.{Form}
-use Rattle.rules.specs.Call.{blank-read}
+use Rattle.rules.specs.Call.{SIZE, refused-reading, blank-read}
+use Rattle.rules.proofs.Named.{blank-read-wrong}
+use Rattle.survey.proofs.Sizes.{sized-lawful, sized-right, sized-wrong}
 use Rattle.istrovell.proofs.istrovell_blank_read.Statement.{statement}
 use Rattle.istrovell.proofs.istrovell_blank_read.Tie as tie
 
-form-of-requires : tie.Need-form-of-requires
-form-of-requires c κs = search needs
-
-blank-read-requires : tie.Need-blank-read-requires
-blank-read-requires c κs = search needs
-
 returns : tie.Need-returns
 returns c =
-    let d = c in
-    let a = c .before .before .before .args in
-    d .blank-read .ensures ∙ ap (λ (f : Form). blank-read f (a .address) (now (a .image))) (d .before .form-of .ensures .0)
+    let known = c .before .before in
+    let sized = known .before .before in
+    let a = sized .before .before .args in
+    let i = now (a .image) in
+    sized-right (a .page-size) i (sized .form-at .ensures) (refused-reading SIZE) (λ f. blank-read f (a .address) i) (known .form .given .1)
+    (c .blank-read .ensures)
+
+returns-2 : tie.Need-returns-2
+returns-2 c =
+    let sized = c .before .before .before in
+    let a = sized .before .before .args in
+    let i = now (a .image) in
+    sized-wrong (a .page-size) i (sized .form-at .ensures) (refused-reading SIZE) (λ f. blank-read f (a .address) i) (c .before .enum-told .given .1)
+    (λ f w. blank-read-wrong f i w (a .address)) (c .refused .ensures)
+
+form-at-requires : tie.Need-form-at-requires
+form-at-requires c κs = search needs
+
+enum-known-form : tie.Need-enum-known-form
+enum-known-form c = search needs
+
+blank-read-requires : tie.Need-blank-read-requires
+blank-read-requires c κs =
+    let known = c .before in
+    let sized = known .before .before in
+    let a = sized .before .before .args in
+    sized-lawful (a .page-size) (now (a .image)) (sized .form-at .ensures) (known .form .given .1)
+
+enum-told : tie.Need-enum-told
+enum-told c = search needs
+
+refused-requires : tie.Need-refused-requires
+refused-requires c κs = search needs
 
 pub istrovell-blank-read-spec : {M : Type 1} → statement M
-istrovell-blank-read-spec = tie.close (tie.spec form-of-requires blank-read-requires returns)
+istrovell-blank-read-spec = tie.close (tie.spec form-at-requires enum-known-form blank-read-requires enum-told refused-requires returns returns-2)

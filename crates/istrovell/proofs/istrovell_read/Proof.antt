@@ -1,23 +1,47 @@
--- `istrovell::istrovell_read` meets its contract: the image is read by the form that it has. Assumes nothing.
-use mathlib.Core.Path.{ap, _∙_}
+-- `istrovell::istrovell_read` meets its contract: the image is read by the form that it has at the page size. Assumes nothing.
 use denote.Ref.{now}
 use borrow.Author.Needs.{needs}
-use Rattle.rules.specs.Page.{Form}
-use Rattle.rules.specs.Call.{read}
+use Rattle.rules.specs.Call.{SIZE, refused-reading, read}
+use Rattle.rules.proofs.Named.{read-wrong}
+use Rattle.survey.proofs.Sizes.{sized-lawful, sized-right, sized-wrong}
 use Rattle.istrovell.proofs.istrovell_read.Statement.{statement}
 use Rattle.istrovell.proofs.istrovell_read.Tie as tie
 
-form-of-requires : tie.Need-form-of-requires
-form-of-requires c κs = search needs
-
-read-requires : tie.Need-read-requires
-read-requires c κs = search needs
-
 returns : tie.Need-returns
 returns c =
-    let d = c in
-    let a = c .before .before .before .args in
-    d .read .ensures ∙ ap (λ (f : Form). read f (a .address) (now (a .image))) (d .before .form-of .ensures .0)
+    let known = c .before .before in
+    let sized = known .before .before in
+    let a = sized .before .before .args in
+    let i = now (a .image) in
+    sized-right (a .page-size) i (sized .form-at .ensures) (refused-reading SIZE) (λ f. read f (a .address) i) (known .form .given .1)
+    (c .read .ensures)
+
+returns-2 : tie.Need-returns-2
+returns-2 c =
+    let sized = c .before .before .before in
+    let a = sized .before .before .args in
+    let i = now (a .image) in
+    sized-wrong (a .page-size) i (sized .form-at .ensures) (refused-reading SIZE) (λ f. read f (a .address) i) (c .before .enum-told .given .1)
+    (λ f w. read-wrong f i w (a .address)) (c .refused .ensures)
+
+form-at-requires : tie.Need-form-at-requires
+form-at-requires c κs = search needs
+
+enum-known-form : tie.Need-enum-known-form
+enum-known-form c = search needs
+
+read-requires : tie.Need-read-requires
+read-requires c κs =
+    let known = c .before in
+    let sized = known .before .before in
+    let a = sized .before .before .args in
+    sized-lawful (a .page-size) (now (a .image)) (sized .form-at .ensures) (known .form .given .1)
+
+enum-told : tie.Need-enum-told
+enum-told c = search needs
+
+refused-requires : tie.Need-refused-requires
+refused-requires c κs = search needs
 
 pub istrovell-read-spec : {M : Type 1} → statement M
-istrovell-read-spec = tie.close (tie.spec form-of-requires read-requires returns)
+istrovell-read-spec = tie.close (tie.spec form-at-requires enum-known-form read-requires enum-told refused-requires returns returns-2)

@@ -1,26 +1,56 @@
--- `istrovell::istrovell_write_group` meets its contract: the image is read by the form that it has. Assumes nothing.
-use mathlib.Core.Path.{ap, _∙_}
+-- `istrovell::istrovell_write_group` meets its contract: the image is read by the form that it has at the page size. Assumes nothing.
 use denote.Ref.{now}
 use borrow.Author.Needs.{needs}
-use Rattle.rules.specs.Page.{Form}
-use Rattle.rules.specs.Call.{write, group-of}
+use Rattle.rules.specs.Call.{SIZE, refused-steps, write, group-of}
+use Rattle.rules.proofs.Named.{write-wrong}
+use Rattle.survey.proofs.Sizes.{sized-lawful, sized-right, sized-wrong}
 use Rattle.istrovell.proofs.istrovell_write_group.Statement.{statement}
 use Rattle.istrovell.proofs.istrovell_write_group.Tie as tie
 
-form-of-requires : tie.Need-form-of-requires
-form-of-requires c κs = search needs
+returns : tie.Need-returns
+returns c =
+    let called = c .before .before in
+    let known = called .before .before .before in
+    let sized = known .before .before in
+    let a = sized .before .before .before .before .args in
+    let i = now (a .image) in
+    sized-right (a .page-size) i (sized .form-at .ensures) (refused-steps SIZE i) (λ f. write f (group-of (now (a .group))) (a .allowance) i) (known .form .given .1)
+    (called .write-group .ensures)
+
+returns-2 : tie.Need-returns-2
+returns-2 c =
+    let sized = c .before .before .before in
+    let a = sized .before .before .before .before .args in
+    let i = now (a .image) in
+    sized-wrong (a .page-size) i (sized .form-at .ensures) (refused-steps SIZE i) (λ f. write f (group-of (now (a .group))) (a .allowance) i) (c .before .enum-told .given .1)
+    (λ f w. write-wrong f i w (group-of (now (a .group))) (a .allowance)) (let r = c .refused .ensures in rw (r .0, r .1, r .2))
+
+form-at-requires : tie.Need-form-at-requires
+form-at-requires c κs = search needs
+
+enum-known-form : tie.Need-enum-known-form
+enum-known-form c = search needs
 
 write-group-requires : tie.Need-write-group-requires
-write-group-requires c κs = search needs
+write-group-requires c κs =
+    let known = c .before .before in
+    let sized = known .before .before in
+    let a = sized .before .before .before .before .args in
+    sized-lawful (a .page-size) (now (a .image)) (sized .form-at .ensures) (known .form .given .1)
+
+enum-told : tie.Need-enum-told
+enum-told c = search needs
+
+refused-requires : tie.Need-refused-requires
+refused-requires c κs = search needs
 
 same-length : tie.Need-same-length
 same-length c = search needs
 
-returns : tie.Need-returns
-returns c =
-    let d = c .before .before in
-    let a = c .before .before .before .before .before .before .before .before .args in
-    d .write-group .ensures ∙ ap (λ (f : Form). write f (group-of (now (a .group))) (a .allowance) (now (a .image))) (d .before .before .form-of .ensures .0)
+same-length-2 : tie.Need-same-length-2
+same-length-2 c = search needs
 
 pub istrovell-write-group-spec : {M : Type 1} → statement M
-istrovell-write-group-spec = tie.close (tie.spec form-of-requires write-group-requires same-length returns)
+istrovell-write-group-spec =
+    tie.close
+    (tie.spec form-at-requires enum-known-form write-group-requires enum-told refused-requires same-length returns same-length-2 returns-2)

@@ -5,7 +5,7 @@ use mathlib.Core.List.{List}
 use denote.Ref.{now}
 use borrow.Author.Needs.{needs}
 use Rattle.rules.specs.Store.{last-of, settings, value}
-use Rattle.rules.specs.Call.{pages, pairing}
+use Rattle.rules.specs.Call.{pages, refused-lookup, pairing}
 use Rattle.rules.specs.Page.{Form}
 use Rattle.rules.proofs.Answers.{same-code, lookup-refused, lookup-done}
 use Rattle.rules.proofs.Held.{held-rising, value-is}
@@ -32,10 +32,14 @@ module _ (c : tie.After-open) where
 open-requires : tie.Need-open-requires
 open-requires c κs = (c .before .before .before .pre, holds-none)
 
+refused-lookup-requires : tie.Need-refused-lookup-requires
+refused-lookup-requires c κs = search needs
+
 returns : tie.Need-returns
 returns c =
-    let o = opens (c .before) in
-    rw (o .number) (sym (lookup-refused (form (c .before)) (image (c .before)) (λ e. c .if1 .taken (o .number ∙ e))))
+    let first = c .before .before in
+    let o = opens first in
+    c .refused-lookup .ensures ∙ ap refused-lookup (o .number) ∙ sym (lookup-refused (form first) (image first) (λ e. c .before .if1 .taken (o .number ∙ e)))
 
 pairing-of-requires : tie.Need-pairing-of-requires
 pairing-of-requires c κs = search needs
@@ -52,4 +56,4 @@ returns-2 c =
     ∙ sym (lookup-done fm i (store-ok o z))
 
 pub lookup-spec : {M : Type 1} → statement M
-lookup-spec = tie.close (tie.spec open-requires returns pairing-of-requires returns-2)
+lookup-spec = tie.close (tie.spec open-requires refused-lookup-requires returns pairing-of-requires returns-2)

@@ -6,7 +6,7 @@ use native.Mathlib.Omega.{arith}
 use denote.Ref.{now}
 use borrow.Author.Needs.{needs}
 use Rattle.rules.specs.Store.{value}
-use Rattle.rules.specs.Call.{pages, store-number}
+use Rattle.rules.specs.Call.{pages, store-number, refused-reading}
 use Rattle.rules.specs.Page.{Form}
 use Rattle.rules.proofs.Answers.{read-refused, read-last, read-found, read-nothing}
 use Rattle.settings.specs.Held.{as-option}
@@ -60,13 +60,23 @@ module _ (c : tie.After-value-in) where
 open-requires : tie.Need-open-requires
 open-requires c κs = (c .before .before .before .pre, holds-none)
 
+refused-requires : tie.Need-refused-requires
+refused-requires c κs = search needs
+
 returns : tie.Need-returns
 returns c =
-    let o = opens (c .before) in
-    rw (o .number) (sym (read-refused (form (c .before)) (image (c .before)) (address (c .before)) (λ e. c .if1 .taken (o .number ∙ e))))
+    let first = c .before .before in
+    let o = opens first in
+    c .refused .ensures ∙ ap refused-reading (o .number)
+    ∙ sym (read-refused (form first) (image first) (address first) (λ e. c .before .if1 .taken (o .number ∙ e)))
+
+refused-requires-2 : tie.Need-refused-requires-2
+refused-requires-2 c κs = search needs
 
 returns-2 : tie.Need-returns-2
-returns-2 c = let o = c .before .before in sym (read-last (form o) (image o) (address o) (ok (c .before)) (c .if2 .taken))
+returns-2 c =
+    let o = c .before .before .before in
+    c .refused2 .ensures ∙ sym (read-last (form o) (image o) (address o) (ok (c .before .before)) (c .before .if2 .taken))
 
 value-in-requires : tie.Need-value-in-requires
 value-in-requires c κs = search needs
@@ -84,11 +94,19 @@ returns-3 c =
     let o = opened f in
     sym (read-found (form o) (image o) (address o) (ok (after-tests f .before)) (v .0 .0) (below (after-tests f)) (found f ∙ ap as-option (v .1)))
 
+refused-requires-3 : tie.Need-refused-requires-3
+refused-requires-3 c κs = search needs
+
 returns-4 : tie.Need-returns-4
 returns-4 c =
-    let f = c .before .before in
+    let f = c .before .before .before in
     let o = opened f in
-    sym (read-nothing (form o) (image o) (address o) (ok (after-tests f .before)) (below (after-tests f)) (found f ∙ ap as-option (c .enum-told .given .1)))
+    c .refused3 .ensures
+    ∙ sym (read-nothing (form o) (image o) (address o) (ok (after-tests f .before)) (below (after-tests f))
+    (found f ∙ ap as-option (c .before .enum-told .given .1)))
 
 pub read-spec : {M : Type 1} → statement M
-read-spec = tie.close (tie.spec open-requires returns returns-2 value-in-requires enum-known-value enum-told returns-3 returns-4)
+read-spec =
+    tie.close
+    (tie.spec open-requires refused-requires returns refused-requires-2 returns-2 value-in-requires enum-known-value enum-told refused-requires-3 returns-3
+    returns-4)
