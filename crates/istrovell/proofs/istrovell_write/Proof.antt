@@ -15,7 +15,8 @@ returns c =
     let sized = known .before .before in
     let a = sized .before .before .before .args in
     let i = now (a .image) in
-    sized-right (a .page-size) i (sized .form-at .ensures) (refused-steps SIZE i) (λ f. write f (single (a .address) (a .value)) (a .allowance) i) (known .form .given .1)
+    let ch = single (a .address) (a .value) in
+    sized-right (a .page-size) i (sized .form-at .ensures) (refused-steps SIZE i) (λ f. write f ch (a .allowance) i) (known .form .given .1)
     (called .write .ensures)
 
 returns-2 : tie.Need-returns-2
@@ -23,8 +24,9 @@ returns-2 c =
     let sized = c .before .before .before in
     let a = sized .before .before .before .args in
     let i = now (a .image) in
-    sized-wrong (a .page-size) i (sized .form-at .ensures) (refused-steps SIZE i) (λ f. write f (single (a .address) (a .value)) (a .allowance) i) (c .before .enum-told .given .1)
-    (λ f w. write-wrong f i w (single (a .address) (a .value)) (a .allowance)) (let r = c .refused .ensures in rw (r .0, r .1, r .2))
+    let ch = single (a .address) (a .value) in
+    sized-wrong (a .page-size) i (sized .form-at .ensures) (refused-steps SIZE i) (λ f. write f ch (a .allowance) i) (c .before .enum-told .given .1)
+    (λ f w. write-wrong f i w ch (a .allowance)) (let r = c .refused .ensures in rw (r .0, r .1, r .2))
 
 form-at-requires : tie.Need-form-at-requires
 form-at-requires c κs = search needs
