@@ -1,9 +1,7 @@
 -- The examples, computed. Assumes nothing.
 use Prim.Native.Nat.{ℕ, _*_}
-use mathlib.Core.Path.{_≡_, refl, ap, _∙_, subst⁻¹}
-use mathlib.Core.Bool.{true, false}
+use mathlib.Core.Path.{_≡_, refl, subst⁻¹}
 use mathlib.Core.List.{List}
-use lib.ListN.{length}
 use lib.Dec.{T}
 use Rattle.rules.specs.Flash.{offset, aim, bytes-at, after, run}
 use Rattle.rules.specs.Word.{zeros, check, sound, blank, condition, low16, low24, third, checked, wear-word, number-word, opening-word, done-word}
@@ -17,29 +15,20 @@ use Rattle.rules.specs.Store.{has-room, in-group, open-group, count, better, of
 use Rattle.rules.specs.Steps.{way, way-steps, new-page, next-order, fill-steps, other, renew, renew-all, format-steps, renewed-wear, greatest-wear}
 use Rattle.rules.specs.Steps.{renewals, renew-picked, unclean, slots-steps, abandon-steps, recovery-steps, settings-of, words-of, append-steps, taken}
 use Rattle.rules.specs.Steps.{open-steps, but, but-all, move-steps, is-value, all-values, write-steps}
-use Rattle.rules.specs.Call.{Formatted, first-of, store-rows, blank-read-rows, read-rows, write-rows, cut, page-count, pages, wrong-size, no-store}
+use Rattle.rules.specs.Call.{first-of, store-rows, blank-read-rows, read-rows, write-rows, cut, page-count, pages, wrong-size, no-store}
 use Rattle.rules.specs.Call.{has-edition, own-edition, opens-itself, edition-of, form-of, triples, group-of}
 use Rattle.rules.specs.Call.{among, repeats, all-used, damaged, is-unclean, wrong-group, wrong-address, a-wrong-address, is-held, is-new, no-room}
 use Rattle.rules.specs.Call.{order-end, store-number, write-number, blank-read-number, read-number, accepted, format, stepped, recover, write, read}
 use Rattle.rules.specs.Call.{reading, blank-value, blank-read, code, all-held, pairing, lookup}
 use Rattle.rules.specs.Named.{chip-of, on-chip}
 use Rattle.rules.specs.Listing.{is-half, is-spoiled, condition-at, conditions, used-conditions, half, spoiled}
-use Rattle.rules.proofs.Answers.{format-done}
-use Rattle.rules.proofs.Laid.{laid, laid-all, within, run-laid}
+use Rattle.rules.proofs.Laid.{laid, laid-all, within, format-laid}
 use Rattle.examples.specs.Examples.{same, holds, bytes, told, kind, said, yes-no, did, showed, done-by, broken, stands, form₁, form₂}
 use Rattle.examples.specs.Examples.{form₃, empty-flash, numbers, written, grouped, with-word, rows, table, the-examples-hold}
 
 -- two formatted pages of a form, computed in one pass for each step
 abbrev two-pages : Form → List ℕ
 two-pages fm = laid-all (size fm) (format-steps (fm .edition) 2) (empty-flash (2 * size fm))
-
-formatted : (fm : Form) → wrong-size fm (empty-flash (2 * size fm)) ≡ false → page-count fm (empty-flash (2 * size fm)) ≡ 2
-    → within (size fm) (length (empty-flash (2 * size fm))) (format-steps (fm .edition) 2) ≡ true
-    → format fm (empty-flash (2 * size fm)) .image ≡ two-pages fm
-formatted fm right two inside =
-    ap (λ (f : Formatted). f .image) (format-done fm (empty-flash (2 * size fm)) right)
-    ∙ ap (λ (n : ℕ). run (size fm) (format-steps (fm .edition) n) (empty-flash (2 * size fm))) two
-    ∙ run-laid (size fm) (format-steps (fm .edition) 2) (empty-flash (2 * size fm)) inside
 
 record Formatted-each : Type 0 where
   first-edition : format form₁ (empty-flash 2048) .image ≡ two-pages form₁
@@ -50,9 +39,9 @@ each-formatted : Formatted-each
 unfolding within format-steps renew-all renew word-steps wear-word opening-word number-word checked offset aim wrong-size page-count
 each-formatted =
     record {
-      first-edition = formatted form₁ refl refl refl;
-      second-edition = formatted form₂ refl refl refl;
-      third-edition = formatted form₃ refl refl refl;
+      first-edition = format-laid form₁ 2 (empty-flash 2048) refl refl refl;
+      second-edition = format-laid form₂ 2 (empty-flash 2048) refl refl refl;
+      third-edition = format-laid form₃ 2 (empty-flash 4096) refl refl refl;
     }
 
 computed : T (holds (rows (two-pages form₁) (two-pages form₂) (two-pages form₃)))

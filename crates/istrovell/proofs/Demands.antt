@@ -17,7 +17,7 @@ use Rattle.rules.specs.Call.{SIZE, Stepped, Reading, Pairing, Formatted, format
 use Rattle.rules.specs.Call.{refused-steps, refused-reading, refused-lookup, reading, code, pairing, lookup}
 use Rattle.rules.specs.Named.{chip-of, on-chip, told-form, write-at, read-at, blank-read-at, lookup-at, number-at}
 use Rattle.rules.proofs.Truth.{by-cases, and-both}
-use Rattle.rules.proofs.Answers.{not-accepted, format-refused, format-done, stepped-refused, stepped-done, lookup-refused, lookup-done}
+use Rattle.rules.proofs.Answers.{not-accepted, format-refused, format-done, format-right, stepped-refused, stepped-done, lookup-refused, lookup-done}
 use Rattle.rules.proofs.Named.{named-roomy, format-named, recover-named, write-named, read-named, blank-read-named, lookup-named}
 use Rattle.rules.proofs.Lengths.{format-long}
 use Rattle.promise.specs.Calls.{Question, value-at, blank-value-at, pairing-code, Answer, finds, EachOf, answer, Obeys}
@@ -147,11 +147,11 @@ same-stepped r s j k h = (ap to h, ap (λ (x : Stepped). x .image) h)
     to : Stepped → Done
     to x = record { number = x .number; finished = x .finished; steps = x .steps }
 
+abbrev read-of : Reading → Read
+read-of x = record { number = x .number; value = x .value }
+
 same-reading : (r s : Read) → as-reading r ≡ as-reading s → r ≡ s
-same-reading r s h = ap to h
-  where
-    to : Reading → Read
-    to x = record { number = x .number; value = x .value }
+same-reading r s h = ap read-of h
 
 abbrev pair-of : Pairing → Pair
 pair-of x =
@@ -226,9 +226,6 @@ unfolding on-chip
 four-at none i = refl
 four-at (some c) i = four-digits (form-of c i) i
 
-abbrev read-of : Reading → Read
-read-of x = record { number = x .number; value = x .value }
-
 pub answered : every-question-is-answered
 answered P i = (given, each)
   where
@@ -270,12 +267,8 @@ module _ (P : ℕ) (chip : Chip) (named : chip-of P ≡ some chip) (i : List ℕ
   format-steps-are second r j h ok =
       let fm = told-form chip second in
       let is = as-formatted h ∙ format-named P chip named i second in
-      by-cases (wrong-size fm i)
-      (λ t. absurd (one-not-zero (sym (ap (λ (f : Formatted). f .number) (is ∙ format-refused fm i t)) ∙ ok)))
-      (λ t. (ap (λ (f : Formatted). f .image) (is ∙ format-done fm i t), format-long (fm .edition) (page-count fm i)))
-    where
-      one-not-zero : _≡_ {A = ℕ} 1 0 → ⊥
-      one-not-zero e = omega arith
+      let right = format-right fm i (sym (ap (λ (f : Formatted). f .number) is) ∙ ok) in
+      (ap (λ (f : Formatted). f .image) (is ∙ format-done fm i right), format-long (fm .edition) (page-count fm i))
 
 pub follows-the-rules : every-step-follows-the-rules
 unfolding recover EachOf settings-of group-of

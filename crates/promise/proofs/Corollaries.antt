@@ -26,7 +26,7 @@ use Rattle.rules.specs.Call.{store-number, write-number, blank-read-number, rea
 use Rattle.rules.specs.Call.{pairing}
 use Rattle.rules.specs.Named.{smaller-chip, larger-chip}
 use Rattle.rules.proofs.Bits.{rises-refl}
-use Rattle.rules.proofs.Laid.{laid, laid-all, within, run-laid}
+use Rattle.rules.proofs.Laid.{laid, laid-all, within, format-laid}
 use Rattle.rules.proofs.Plans.{BytesLeft}
 use Rattle.rules.proofs.Rows.{write-fails}
 use Rattle.rules.proofs.Groups.{stays-out, none-open}
@@ -195,11 +195,8 @@ value-rises = (omega arith, (omega arith, (omega arith, (omega arith, (omega ari
 
 module _ (chip : Chip) (is : Computed chip) where
   fresh-is : fresh-store chip ≡ laid-out chip
-  unfolding laid-out format
-  fresh-is =
-      ap (λ (f : Formatted). f .image) (format-done (fm chip) (new-flash chip) (is .lawful))
-      ∙ ap (λ (n : ℕ). run (size (fm chip)) (format-steps (chip .first) n) (new-flash chip)) (is .two)
-      ∙ run-laid (size (fm chip)) (format-steps (chip .first) 2) (new-flash chip) (is .all-within)
+  unfolding laid-out
+  fresh-is = format-laid (fm chip) 2 (new-flash chip) (is .lawful) (is .two) (is .all-within)
 
   -- a write that is stopped after n of its steps ss, and what is left when the next fails
   stopped : (n : ℕ) (ss : List Step) (i j : Image) → form-of chip i ≡ fm chip → write-number (fm chip) change i ≡ OK → write-of (fm chip) change i ≡ ss

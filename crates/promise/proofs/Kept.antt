@@ -13,11 +13,11 @@ use Rattle.rules.specs.Flash.{Step, run}
 use Rattle.rules.specs.Page.{Form, size, Chip, in-edition}
 use Rattle.rules.specs.Store.{Setting, value}
 use Rattle.rules.specs.Steps.{Change, settings-of, format-steps}
-use Rattle.rules.specs.Call.{Roomy, RoomyChip, form-of, page-count, pages, wrong-size, store-number, write-number, a-wrong-address, accepted, stepped}
+use Rattle.rules.specs.Call.{Roomy, RoomyChip, form-of, page-count, pages, store-number, write-number, a-wrong-address, accepted, stepped}
 use Rattle.rules.specs.Call.{recover, write, Formatted, Stepped, OK}
 use Rattle.rules.proofs.Truth.{by-cases}
 use Rattle.rules.proofs.Rows.{write-fails}
-use Rattle.rules.proofs.Answers.{format-refused, format-done, stepped-done}
+use Rattle.rules.proofs.Answers.{format-done, format-right, stepped-done}
 use Rattle.rules.proofs.Plans.{BytesLeft, left-after}
 use Rattle.rules.proofs.Groups.{change-distinct}
 use Rattle.rules.proofs.Editions.{accepted-editions}
@@ -114,18 +114,13 @@ module _ (chip : Chip) (roomy : RoomyChip chip) (C : Calls) (obeys : Obeys chip 
   in-use-healthy (formatted e i f x ok) =
       let is = obeys .formats e i f x in
       let fm = in-edition chip e in
-      by-cases (wrong-size fm i)
-      (λ w. absurd (one-not-zero (sym (ap (λ (g : Formatted). g .number) (is .1 ∙ format-refused fm i w)) ∙ ok)))
-      (λ w.
+      let w = format-right fm i (sym (ap (λ (g : Formatted). g .number) (is .1)) ∙ ok) in
       let h = format-healthy fm (roomy .0) i w in (
         (λ x. none),
         subst (Well (λ x. none)) (sym (ap (λ (g : Formatted). g .image) (is .1 ∙ format-done fm i w)))
             (subst (λ (g : Form). Healthy g (Unit {0}) (Unit {0}) (λ x. none) (run (size fm) (format-steps e (page-count fm i)) i))
             (sym (form-told chip e (is .0) h)) h),
-      ))
-    where
-      one-not-zero : _≡_ {A = ℕ} 1 0 → ⊥
-      one-not-zero e = omega arith
+      )
   in-use-healthy (recovered u r) = let h = in-use-healthy u in (h .0, recovery-keeps (h .1) r)
   in-use-healthy (written c u w) =
       let h = in-use-healthy u in

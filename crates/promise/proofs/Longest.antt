@@ -106,11 +106,6 @@ unfolding held-all rising a-wrong-address wrong-address put put-all but but-all 
 computed = record { many = refl; lawful = refl; held-so = refl; held-again = refl; copied-many = refl; first-value = refl }
 
 -- what follows of them and the first one again, so many times
-again-many : (k : ℕ) → length (again k) ≡ k
-unfolding again
-again-many zero = refl
-again-many (suc k) = ap suc (again-many k)
-
 again-lawful : (k : ℕ) → Lawful (again k)
 unfolding again Lawful
 again-lawful zero = tt
@@ -123,7 +118,8 @@ again-held (suc k) = ap (λ (t : List Setting). put-all t (again k)) (computed .
 
 module _ (k : ℕ) where
   all-many : length (all k) ≡ 192 + k
-  all-many = omega (arith, length-append held-all (again k), computed .many, again-many k)
+  unfolding again
+  all-many = omega (arith, length-append held-all (again k), computed .many, length-replicate k (setting 0 0))
 
   read-back : (e : ℕ) → records e (map record-of (all k)) ≡ all k
   read-back e =

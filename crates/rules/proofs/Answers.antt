@@ -1,6 +1,6 @@
 -- What each call answers, test by test: the laws that the calls in code cite. Assumes nothing.
 use Prim.Native.Nat.{ℕ, zero, suc, _≤_, _<_}
-use mathlib.Core.Path.{_≡_, refl, sym, _∙_}
+use mathlib.Core.Path.{_≡_, refl, sym, ap, _∙_}
 use mathlib.Core.Bool.{true, false, cond, not}
 use mathlib.Core.List.{List, [], _∷_}
 use mathlib.Core.Option.{Option, none, some}
@@ -12,11 +12,12 @@ use Rattle.rules.specs.Flash.{Step, run}
 use Rattle.rules.specs.Page.{Form, size}
 use Rattle.rules.specs.Store.{value, or-value}
 use Rattle.rules.specs.Steps.{format-steps, Change, settings-of, words-of, all-values}
+use Rattle.rules.proofs.Truth.{is-false}
 use Rattle.rules.proofs.Rows.{numbers, not-given, then, blank-read-goes-on, read-goes-on, write-goes-on}
 use Rattle.rules.specs.Call.{first-of, page-count, pages, wrong-size, store-number, write-only-rows, write-number, blank-read-number, read-number}
 use Rattle.rules.specs.Call.{store-rows, blank-read-rows, among, is-unclean, wrong-group, wrong-address, a-wrong-address, is-held, no-room}
 use Rattle.rules.specs.Call.{order-end, accepted}
-use Rattle.rules.specs.Call.{format, stepped, reading, read, blank-value, blank-read, code, pairing, lookup}
+use Rattle.rules.specs.Call.{Formatted, format, stepped, reading, read, blank-value, blank-read, code, pairing, lookup}
 use Rattle.rules.specs.Call.{OK, SIZE, ADDRESS, NOT-HELD, UNCLEAN, NO-ROOM, ORDER-END, GROUP}
 
 -- ---- numbers
@@ -52,6 +53,12 @@ pub format-done : (fm : Form) (i : List ℕ) → wrong-size fm i ≡ false
     → format fm i ≡ record { number = OK; image = run (size fm) (format-steps (fm .edition) (page-count fm i)) i }
 unfolding format
 format-done fm i w = rw w
+
+-- one that is accepted is of a right size
+pub format-right : (fm : Form) (i : List ℕ) → format fm i .number ≡ OK → wrong-size fm i ≡ false
+format-right fm i ok =
+    is-false (wrong-size fm i)
+    (λ w. let z : _≡_ {A = ℕ} SIZE OK = sym (ap (λ (f : Formatted). f .number) (format-refused fm i w)) ∙ ok in omega arith)
 
 -- ---- read
 

@@ -1,4 +1,4 @@
--- The number of an image's pages, test by test. Assumes nothing.
+-- The number of an image's pages, test by test; and what a call is at a page size, by whether the size is right. Assumes nothing.
 use Prim.Native.Nat.{ℕ, _/_, _%_, _≤_, _<_}
 use mathlib.Core.Path.{_≡_, refl, sym, ap, _∙_, subst}
 use mathlib.Core.Logic.{inl, inr}
