@@ -13,6 +13,7 @@ PAGES = (2, 8, 32)
 # Each store, by its page size and its number of pages.
 STORES = [(size, pages) for size in SIZES for pages in PAGES]
 HELD = 192
+FIRST_OF_TIMER = 32768
 GROUP = 4
 SEED = 1
 # The most that a call may cost beside another.
@@ -49,11 +50,14 @@ def page(order, records, edition, size):
 
 
 def full_store(size, pages, edition):
-    """All pages but one full, 192 addresses held, each once to begin with and then at random; pages in random places. Gives
-    the pages, the places of the active and of the cleared one, and the addresses that are held."""
+    """All pages but one full, 192 addresses held, half of them the handset's and half the timer's, each once to begin with and
+    then at random; pages in random places. Gives the pages, the places of the active and of the cleared one, and the addresses
+    that the handset holds."""
     dice = random.Random(SEED)
     slots = slots_of(size)
-    pool = dice.sample(range(65535), HELD)
+    handsets = dice.sample(range(FIRST_OF_TIMER), HELD // 2)
+    pool = handsets + dice.sample(range(FIRST_OF_TIMER, 65535), HELD // 2)
+    dice.shuffle(pool)
     named = (pool + [dice.choice(pool) for _ in range((pages - 1) * slots)])[: (pages - 1) * slots]
     records = [record(address, dice.randrange(256)) for address in named]
     places = dice.sample(range(pages), pages)
@@ -61,7 +65,7 @@ def full_store(size, pages, edition):
     for order in range(pages - 1):
         image[places[order]] = page(order, records[order * slots : (order + 1) * slots], edition, size)
     image[places[-1]] = wear(3, edition) + b"\xff" * (size - 4)
-    return image, places[pages - 2], places[-1], pool
+    return image, places[pages - 2], places[-1], handsets
 
 
 def address_in(content):
@@ -78,9 +82,9 @@ def with_free_slots(image, place, count):
 def cases(size, pages):
     """Name, call, image, addresses, and the answer that is expected: its number and, of a call in steps, its steps."""
     plain, grouped = (1, 2) if size == 1024 else (3, 3)
-    image, active, cleared, pool = full_store(size, pages, plain)
+    image, active, cleared, handsets = full_store(size, pages, plain)
     with_groups = full_store(size, pages, grouped)[0]
-    address, group = pool[HELD // 2], pool[HELD // 2 : HELD // 2 + GROUP]
+    address, group = handsets[0], handsets[:GROUP]
     torn = list(image)
     torn[cleared] = image[cleared][:-1] + b"\x00"
     lost = [content if place == active else b"\xff" * size for place, content in enumerate(image)]
@@ -212,11 +216,12 @@ Made by `bench/run`, which writes this page. {machine}; {tools}.
 ## Instructions per call
 
 Counted by callgrind inside the exported function, in a second call, so that nothing is counted that only a first call
-does. {HELD} addresses are held, their records in random order (seed {SEED}); all pages but one are full, and the last slot
-is free for the plain write, the last {GROUP + 2} for the group write, which is of held addresses. Pages of 1,024 bytes are of the
-second edition for it, and of the first for all other calls. Where wears are lost, every page but the active one is blank and so
-without a wear. `second` is the second implementation of `outside/`, in Rust, built for release: it is written to be clear, and not
-to be fast.
+does. {HELD} addresses are held, half of them the handset's and half the glaze timer's, their records in random order (seed
+{SEED}); all pages but one are full, and the last slot is free for the plain write, the last {GROUP + 2} for the group write, which is
+of held addresses. Reads and writes are by the owner of the address. Pages of 1,024 bytes are of the second edition for the
+group write, and of the first for all other calls. Where wears are lost, every page but the active one is blank and so without
+a wear. `second` is the second implementation of `outside/`, in Rust, built for release: it is written to be clear, and not to
+be fast.
 
 {instruction_table(counts, 1024)}
 
@@ -228,8 +233,8 @@ to be fast.
 
 ## Bytes of stack
 
-Painted before the call; the return address is counted. `outside/tests/stack.rs` holds each call to the limit on many
-more images.
+Painted before the call; the return address is counted, and the seventh argument of both writes, which x86-64 has on the
+stack too. `outside/tests/stack.rs` holds each call to the limit on many more images.
 
 {stack_table(used)}
 """

@@ -2,7 +2,7 @@
  *
  * A setting is one byte at an address 0 to 65,534. At most 192 addresses are held. The store is an image of 2 to 32 pages
  * of 1,024 bytes or, on the larger chip, of 2,048 bytes. It is lent to each call by pointer and length, and the call names
- * the page size.
+ * the page size. Two programs may share it, the handset and the glaze timer, and writes and reads name which one calls.
  *
  * Pages of 1,024 bytes are of the first edition or of the second, which format is told; a store of the second can be written
  * by groups, and everything else is alike. Every other call reads the edition off the image. Firmware that was built before
@@ -13,6 +13,17 @@
  *   Every call on a store names the size that its format named: nothing in the image is asked for it. A call that names the
  *   other size is answered, and changes nothing outside the image, but of what it finds there nothing is promised: settings
  *   of a store with pages of 2,048 bytes can look like a page of 1,024. So let the size be one constant of the firmware.
+ *
+ * THE TWO OWNERS
+ *   The handset has the addresses 0 to 32,767, the glaze timer 32,768 to 65,534. Both writes, read and blank read name the
+ *   program that calls by `timer`: true for the timer, false for the handset. So let it be one constant of each program. An
+ *   address of the other's is answered ISTROVELL_OWNER, also a write of the value that it has. The other calls name nobody:
+ *   a format empties the store for both, a recovery serves both, and the pairing code is the handset's.
+ *   Neither comes to hold more than 128 addresses: a write of a new one beyond that is ISTROVELL_NO_ROOM. As 64 of the 192
+ *   are then left, a write that leaves its owner with at most 64 is never told ISTROVELL_NO_ROOM, whatever the other does. A
+ *   store from before this limit may hold more than 128 of one: that is no fault, and what is held can be changed.
+ *   As long as its writes finish, what a program reads depends on them alone. But the pages are shared: whether a write needs
+ *   recovery first, how many steps it has and whether it moves all settings depends on both. One call runs at a time.
  *
  * WHAT HOLDS OF EVERY CALL
  *   - Any length, any page size and any bytes are lawful input, and the pointer may have any alignment. A page size other
@@ -44,7 +55,7 @@
  *       memcpy(start, flash, length);
  *       for (uint16_t k = 1;; k++) {
  *           memcpy(work, start, length);
- *           answer = istrovell_write(work, length, page_size, address, value, k);
+ *           answer = istrovell_write(work, length, page_size, timer, address, value, k);
  *           if (answer.number != ISTROVELL_OK)
  *               return answer;                  // refused: the flash stays
  *           carry(work);                        // flash and work differ by step k: do it
@@ -74,17 +85,20 @@
 extern "C" {
 #endif
 
-#define ISTROVELL_SMALLER_PAGE 1024u  /* the page sizes: bytes of a page */
-#define ISTROVELL_LARGER_PAGE 2048u   /* on the larger chip */
-#define ISTROVELL_PAGES_MIN 2u        /* pages of an image, at least */
-#define ISTROVELL_PAGES_MAX 32u       /* and at most */
-#define ISTROVELL_ADDRESS_MAX 65534u  /* the last address */
-#define ISTROVELL_HELD_MAX 192u       /* addresses held at a time, at most */
-#define ISTROVELL_GROUP_MAX 8u        /* settings of a group, at most */
-#define ISTROVELL_ALL_STEPS 65535u    /* an allowance that no call uses up */
-#define ISTROVELL_PAIRING_ADDRESS 16u /* the pairing code's four digits are here and at the three addresses after it */
+#define ISTROVELL_SMALLER_PAGE 1024u     /* the page sizes: bytes of a page */
+#define ISTROVELL_LARGER_PAGE 2048u      /* on the larger chip */
+#define ISTROVELL_PAGES_MIN 2u           /* pages of an image, at least */
+#define ISTROVELL_PAGES_MAX 32u          /* and at most */
+#define ISTROVELL_TIMER_ADDRESS 32768u   /* the timer's first address; those before it are the handset's */
+#define ISTROVELL_ADDRESS_MAX 65534u     /* the last address */
+#define ISTROVELL_HELD_MAX 192u          /* addresses held at a time, at most */
+#define ISTROVELL_HELD_BY_OWNER_MAX 128u /* of one owner, at most */
+#define ISTROVELL_GROUP_MAX 8u           /* settings of a group, at most */
+#define ISTROVELL_ALL_STEPS 65535u       /* an allowance that no call uses up */
+#define ISTROVELL_PAIRING_ADDRESS 16u    /* the pairing code's four digits are here and at the three addresses after it */
 
-/* The answers by number. Where several would fit, the first in this order is given: 1, 2, 3, 4, 9, 5, 6, 7, 8. */
+/* The answers by number. Where several would fit, the first in this order is given: 1, 2, 3, 4, 9, 5, 11, 6, 7, 8. There is
+ * no 10. */
 enum istrovell_number {
     ISTROVELL_OK = 0,        /* done, or stopped by the allowance */
     ISTROVELL_SIZE = 1,      /* no such page size, or the length is no multiple of it, or not 2 to 32 pages */
@@ -92,10 +106,11 @@ enum istrovell_number {
     ISTROVELL_DAMAGED = 3,   /* two used pages of one order, or every page used, or more than 192 addresses held */
     ISTROVELL_UNCLEAN = 4,   /* a page neither used nor cleared, or a group cut short: recover, then write again */
     ISTROVELL_ADDRESS = 5,   /* address 65,535 */
-    ISTROVELL_NO_ROOM = 6,   /* with the addresses that are not held yet, more than 192 would be */
+    ISTROVELL_NO_ROOM = 6,   /* with the addresses that are not held yet, more than 192 would be, or 128 of this owner */
     ISTROVELL_ORDER_END = 7, /* a new page is needed and the active order is 4,194,303, the last */
     ISTROVELL_NOT_HELD = 8,  /* the address is not held */
-    ISTROVELL_GROUP = 9      /* a group of other than 1 to 8 settings, or with an address twice, or a first-edition store */
+    ISTROVELL_GROUP = 9,     /* a group of other than 1 to 8 settings, or with an address twice, or a first-edition store */
+    ISTROVELL_OWNER = 11     /* the address, or one of the group, is the other program's */
 };
 
 /* The answer of recovery and of both writes. */
@@ -135,33 +150,34 @@ struct istrovell_stepped istrovell_recover(uint8_t *image, size_t length, uint16
 
 /* Puts the value at the address. An address that has the value already takes 0 steps; a free slot 2; a new page 4; a move
  * of all settings to the only cleared page at most 388 + 3 x (pages - 1), that is 481 at 32 pages.
- * Answers 0 to 7; an address that has the value already is tested against 1 to 5 only.
+ * Answers 0 to 7 and 11; an address that has the value already is tested against 1 to 5 and 11 only.
  *
  * If power fails in any step, and in any step of the recoveries after it, every other address reads as before, and this
  * one as before or with the new value; once a step has made it new, a failure at a later step leaves it new. */
-struct istrovell_stepped istrovell_write(uint8_t *image, size_t length, uint16_t page_size, uint16_t address,
-                                         uint8_t value, uint16_t allowance);
+struct istrovell_stepped istrovell_write(uint8_t *image, size_t length, uint16_t page_size, bool timer,
+                                         uint16_t address, uint8_t value, uint16_t allowance);
 
 /* Puts the values of a group at its addresses, as one: a pairing code, say. `group` has three bytes for each setting: its
  * address, low byte first, then its value; `group_length` counts these bytes, so it is 3, 6, up to 24. The addresses must
- * differ. With length 0 the pointer is not followed and may be null. The bytes of the group are only read, and it must not
- * lie in the image.
+ * differ, and all be of the program that calls. With length 0 the pointer is not followed and may be null. The bytes of the
+ * group are only read, and it must not lie in the image.
  * If all addresses have their values already it takes 0 steps; else 4 + 2 for each setting, with a new page 2 more, or a move
  * as istrovell_write does.
- * Answers 0 to 7 and 9; a group whose values are all held is tested against 1 to 4, 9 and 5 only.
+ * Answers 0 to 7, 9 and 11; a group whose values are all held is tested against 1 to 4, 9, 5 and 11 only.
  *
  * If power fails in any step, and in any step of the recoveries after it, every other address reads as before, and those of
  * the group all as before or all with the new values; once a step has made them new, a failure at a later step leaves them
  * new. So a lookup gives the old code or the new one, never a mixture. */
-struct istrovell_stepped istrovell_write_group(uint8_t *image, size_t length, uint16_t page_size, const uint8_t *group,
-                                               size_t group_length, uint16_t allowance);
+struct istrovell_stepped istrovell_write_group(uint8_t *image, size_t length, uint16_t page_size, bool timer,
+                                               const uint8_t *group, size_t group_length, uint16_t allowance);
 
-/* The value at the address. Answers 0, 1, 2, 3, 5 or 8. Recovery need not have run. */
-struct istrovell_reading istrovell_read(const uint8_t *image, size_t length, uint16_t page_size, uint16_t address);
+/* The value at the address. Answers 0, 1, 2, 3, 5, 11 or 8. Recovery need not have run. */
+struct istrovell_reading istrovell_read(const uint8_t *image, size_t length, uint16_t page_size, bool timer,
+                                        uint16_t address);
 
 /* The same with value 0, and number 0, for an address that is not held: what a kiln-side display gets for an offset that
- * nobody has set. One that was set to 0 answers the same; istrovell_read tells them apart. Answers 0, 1, 2, 3 or 5. */
-struct istrovell_reading istrovell_blank_read(const uint8_t *image, size_t length, uint16_t page_size,
+ * nobody has set. One that was set to 0 answers the same; istrovell_read tells them apart. Answers 0, 1, 2, 3, 5 or 11. */
+struct istrovell_reading istrovell_blank_read(const uint8_t *image, size_t length, uint16_t page_size, bool timer,
                                               uint16_t address);
 
 /* The blank reads of addresses 16 to 19 as digits, and whether they are a pairing code. A digit whose address is not held is

@@ -1,5 +1,6 @@
 /* include/istrovell.h against the library, as C and as C++: the numbers, the answers' layout, a null image and a null group
- * of length 0, wrong page sizes, and a store of either page size. Ends with status 1 at the first difference. */
+ * of length 0, wrong page sizes, and a store of either page size with its two owners. Ends with status 1 at the first
+ * difference. */
 #include "istrovell.h"
 
 #include <stdio.h>
@@ -19,6 +20,7 @@ static void numbers(void)
                        ISTROVELL_ADDRESS, ISTROVELL_NO_ROOM, ISTROVELL_ORDER_END, ISTROVELL_NOT_HELD, ISTROVELL_GROUP};
     for (int number = 0; number < 10; number++)
         expect(all[number] == number, "a number");
+    expect(ISTROVELL_OWNER == 11, "the number OWNER");
     expect(sizeof(struct istrovell_stepped) == 4, "the size of struct istrovell_stepped");
     expect(sizeof(struct istrovell_reading) == 2, "the size of struct istrovell_reading");
     expect(sizeof(struct istrovell_pairing) == 6, "the size of struct istrovell_pairing");
@@ -57,10 +59,10 @@ static void all_refuse(uint8_t *image, size_t length, uint16_t size)
     expect(istrovell_format(image, length, size, false) == ISTROVELL_SIZE, "format, SIZE");
     expect(istrovell_format(image, length, size, true) == ISTROVELL_SIZE, "format with the second edition, SIZE");
     expect(refused(istrovell_recover(image, length, size, all), ISTROVELL_SIZE), "recovery, SIZE");
-    expect(refused(istrovell_write(image, length, size, 5, 65, all), ISTROVELL_SIZE), "write, SIZE");
-    expect(refused(istrovell_write_group(image, length, size, NULL, 0, all), ISTROVELL_SIZE), "group write, SIZE");
-    expect(reads(istrovell_read(image, length, size, 5), ISTROVELL_SIZE, 0), "read, SIZE");
-    expect(reads(istrovell_blank_read(image, length, size, 5), ISTROVELL_SIZE, 0), "blank read, SIZE");
+    expect(refused(istrovell_write(image, length, size, false, 5, 65, all), ISTROVELL_SIZE), "write, SIZE");
+    expect(refused(istrovell_write_group(image, length, size, false, NULL, 0, all), ISTROVELL_SIZE), "group write, SIZE");
+    expect(reads(istrovell_read(image, length, size, false, 5), ISTROVELL_SIZE, 0), "read, SIZE");
+    expect(reads(istrovell_blank_read(image, length, size, false, 5), ISTROVELL_SIZE, 0), "blank read, SIZE");
     expect(finds(istrovell_lookup(image, length, size), ISTROVELL_SIZE, false, none), "lookup, SIZE");
 }
 
@@ -76,22 +78,24 @@ static void one_store(uint16_t size)
     uint8_t *const image = bytes + 1;
     expect(istrovell_format(image, LENGTH, size, false) == ISTROVELL_OK, "format");
     expect(image[2] == (size == ISTROVELL_LARGER_PAGE ? 3 : 1), "the edition");
-    expect(stopped(istrovell_write(image, LENGTH, size, 5, 65, 1), 1), "a write of one step");
-    expect(reads(istrovell_read(image, LENGTH, size, 5), ISTROVELL_NOT_HELD, 0), "a write that was cut");
+    expect(stopped(istrovell_write(image, LENGTH, size, false, 5, 65, 1), 1), "a write of one step");
+    expect(reads(istrovell_read(image, LENGTH, size, false, 5), ISTROVELL_NOT_HELD, 0), "a write that was cut");
     expect(finished(istrovell_recover(image, LENGTH, size, all), 0), "recovery");
     for (uint8_t digit = 0; digit < 4; digit++) {
         const uint16_t address = (uint16_t)(ISTROVELL_PAIRING_ADDRESS + digit);
         if (digit == 3)
             expect(finds(istrovell_lookup(image, LENGTH, size), ISTROVELL_OK, false, code), "lookup without the last digit");
-        expect(finished(istrovell_write(image, LENGTH, size, address, code[digit], all), 2), "a write");
+        expect(finished(istrovell_write(image, LENGTH, size, false, address, code[digit], all), 2), "a write");
     }
     expect(finds(istrovell_lookup(image, LENGTH, size), ISTROVELL_OK, true, code), "lookup");
-    expect(reads(istrovell_read(image, LENGTH, size, 18), ISTROVELL_OK, 7), "read");
-    expect(reads(istrovell_blank_read(image, LENGTH, size, 17), ISTROVELL_OK, 255), "blank read");
-    expect(reads(istrovell_blank_read(image, LENGTH, size, 5), ISTROVELL_OK, 0), "blank read of an address that is not held");
-    expect(reads(istrovell_read(image, LENGTH, size, ISTROVELL_ADDRESS_MAX + 1), ISTROVELL_ADDRESS, 0), "address 65,535");
+    expect(reads(istrovell_read(image, LENGTH, size, false, 18), ISTROVELL_OK, 7), "read");
+    expect(reads(istrovell_blank_read(image, LENGTH, size, false, 17), ISTROVELL_OK, 255), "blank read");
+    expect(reads(istrovell_blank_read(image, LENGTH, size, false, 5), ISTROVELL_OK, 0),
+           "blank read of an address that is not held");
+    expect(reads(istrovell_read(image, LENGTH, size, false, ISTROVELL_ADDRESS_MAX + 1), ISTROVELL_ADDRESS, 0),
+           "address 65,535");
     if (size == ISTROVELL_SMALLER_PAGE)
-        expect(refused(istrovell_write_group(image, LENGTH, size, code, 3, all), ISTROVELL_GROUP),
+        expect(refused(istrovell_write_group(image, LENGTH, size, false, code, 3, all), ISTROVELL_GROUP),
                "a group in a store of the first edition");
 }
 
@@ -106,16 +110,50 @@ static void one_group(uint16_t size)
     static uint8_t image[LENGTH];
     expect(istrovell_format(image, LENGTH, size, true) == ISTROVELL_OK, "format with the second edition");
     expect(image[2] == (size == ISTROVELL_LARGER_PAGE ? 3 : 2), "an edition with groups");
-    expect(refused(istrovell_write_group(image, LENGTH, size, NULL, 0, all), ISTROVELL_GROUP), "a group write of nothing");
-    expect(stopped(istrovell_write_group(image, LENGTH, size, group, group_length, 11), 11), "a group write of 11 steps");
+    expect(refused(istrovell_write_group(image, LENGTH, size, false, NULL, 0, all), ISTROVELL_GROUP),
+           "a group write of nothing");
+    expect(stopped(istrovell_write_group(image, LENGTH, size, false, group, group_length, 11), 11),
+           "a group write of 11 steps");
     expect(finds(istrovell_lookup(image, LENGTH, size), ISTROVELL_OK, false, none), "a group that was cut");
-    expect(refused(istrovell_write(image, LENGTH, size, 5, 65, all), ISTROVELL_UNCLEAN),
+    expect(refused(istrovell_write(image, LENGTH, size, false, 5, 65, all), ISTROVELL_UNCLEAN),
            "a write behind a group that was cut");
     expect(finished(istrovell_recover(image, LENGTH, size, all), 2), "recovery of a group that was cut");
-    expect(finished(istrovell_write_group(image, LENGTH, size, group, group_length, all), 12), "a group write");
+    expect(finished(istrovell_write_group(image, LENGTH, size, false, group, group_length, all), 12), "a group write");
     expect(finds(istrovell_lookup(image, LENGTH, size), ISTROVELL_OK, true, code), "lookup of a code written as one");
-    expect(finished(istrovell_write_group(image, LENGTH, size, group, group_length, 0), 0), "a group whose values are held");
-    expect(refused(istrovell_write_group(image, LENGTH, size, nine, sizeof nine, 0), ISTROVELL_GROUP), "a group of nine");
+    expect(finished(istrovell_write_group(image, LENGTH, size, false, group, group_length, 0), 0),
+           "a group whose values are held");
+    expect(refused(istrovell_write_group(image, LENGTH, size, false, nine, sizeof nine, 0), ISTROVELL_GROUP),
+           "a group of nine");
+}
+
+/* The handset up to 32,767, the timer from 32,768 on: `timer` comes across as itself, and so does each argument behind it. */
+static void two_owners(uint16_t size)
+{
+    const bool handset = false, timer = true;
+    const uint16_t all = ISTROVELL_ALL_STEPS, last = ISTROVELL_TIMER_ADDRESS - 1, first = ISTROVELL_TIMER_ADDRESS;
+    const uint8_t group[] = {0, 128, 7, 254, 255, 8}, mixed[] = {0, 128, 7, 255, 127, 8};
+    static uint8_t image[LENGTH];
+    expect(istrovell_format(image, LENGTH, size, true) == ISTROVELL_OK, "format for two owners");
+    expect(finished(istrovell_write(image, LENGTH, size, handset, last, 65, all), 2), "the handset's last address");
+    expect(refused(istrovell_write(image, LENGTH, size, handset, first, 66, all), ISTROVELL_OWNER), "a write, OWNER");
+    expect(refused(istrovell_write(image, LENGTH, size, timer, last, 65, all), ISTROVELL_OWNER), "a held value, OWNER");
+    expect(stopped(istrovell_write(image, LENGTH, size, timer, first, 66, 1), 1), "the timer's write of one step");
+    expect(finished(istrovell_write_group(image, LENGTH, size, timer, group, sizeof group, all), 8), "the timer's group");
+    expect(refused(istrovell_write_group(image, LENGTH, size, handset, group, sizeof group, all), ISTROVELL_OWNER),
+           "a group, OWNER");
+    expect(refused(istrovell_write_group(image, LENGTH, size, timer, mixed, sizeof mixed, all), ISTROVELL_OWNER),
+           "a group of both owners, OWNER");
+    expect(reads(istrovell_read(image, LENGTH, size, handset, last), ISTROVELL_OK, 65), "the handset's read");
+    expect(reads(istrovell_read(image, LENGTH, size, timer, first), ISTROVELL_OK, 7), "the timer's read");
+    expect(reads(istrovell_blank_read(image, LENGTH, size, timer, ISTROVELL_ADDRESS_MAX), ISTROVELL_OK, 8),
+           "the timer's blank read");
+    expect(reads(istrovell_read(image, LENGTH, size, timer, last), ISTROVELL_OWNER, 0), "a read, OWNER");
+    expect(reads(istrovell_blank_read(image, LENGTH, size, handset, first), ISTROVELL_OWNER, 0), "a blank read, OWNER");
+    for (uint16_t index = 2; index < ISTROVELL_HELD_BY_OWNER_MAX; index++)
+        expect(finished(istrovell_write(image, LENGTH, size, timer, (uint16_t)(first + index), 1, all), 2), "up to 128");
+    expect(refused(istrovell_write(image, LENGTH, size, timer, first + 1, 1, all), ISTROVELL_NO_ROOM), "the 129th");
+    expect(finished(istrovell_write(image, LENGTH, size, timer, first, 9, all), 2), "a change at the limit");
+    expect(finished(istrovell_write(image, LENGTH, size, handset, 5, 65, all), 2), "the other at its limit");
 }
 
 int main(void)
@@ -129,6 +167,7 @@ int main(void)
         all_refuse(image, sizes[i], sizes[i]);
         one_store(sizes[i]);
         one_group(sizes[i]);
+        two_owners(sizes[i]);
     }
     for (size_t i = 0; i < sizeof wrong / sizeof wrong[0]; i++)
         all_refuse(image, LENGTH, wrong[i]);

@@ -1,15 +1,17 @@
-/* A handset's life over a flash with a power switch: it is formatted and paired, paired anew, and used until its settings
- * move to the only cleared page. Power is cut in each step of the pairing and of the move. Ends with status 1 if anything
- * was lost. */
-#include "settings.h"
+/* The life of a handset and of the glaze timer beside it, over a flash with a power switch: it is formatted, the handset is
+ * paired, and paired anew, the timer gets a new soak time, and both are used until a change moves the settings of both to the
+ * only cleared page. Power is cut in each step of the pairing, of the soak time and of the move. Ends with status 1 if
+ * anything was lost. */
+#include "timer.h"
 
 #include <stdio.h>
 
-enum { EMISSIVITY = 1, UNIT = 2, ALARM_LOW = 3, ALARM_HIGH = 4, BRIGHTNESS = 300, LAST_TARGET = 65534 };
+enum { EMISSIVITY = 1, UNIT = 2, ALARM_LOW = 3, ALARM_HIGH = 4, BRIGHTNESS = 300, LAST_TARGET = 32767 };
 
 static const uint16_t kept[] = {EMISSIVITY, UNIT, ALARM_LOW, ALARM_HIGH, BRIGHTNESS, LAST_TARGET, 16, 17, 18, 19};
 static const uint8_t first_code[4] = {4, 2, 0, 7}, second_code[4] = {5, 2, 255, 8};
 #define KEPT (sizeof kept / sizeof kept[0])
+static const struct soak soaks[TIMER_GLAZES] = {{0, 20}, {1, 45}, {2, 0}}, longer = {3, 15};
 
 static unsigned faults;
 
@@ -23,7 +25,7 @@ static void expect(bool holds, const char *what, unsigned step, unsigned tear)
 
 static uint8_t get(const struct flash *chip, uint16_t address)
 {
-    return istrovell_read(chip->bytes, FLASH_BYTES, FLASH_PAGE_BYTES, address).value;
+    return istrovell_read(chip->bytes, FLASH_BYTES, FLASH_PAGE_BYTES, HANDSET, address).value;
 }
 
 static bool has_code(const struct flash *chip, const uint8_t code[4])
@@ -40,7 +42,18 @@ static bool done(struct istrovell_stepped answer)
 
 static bool set(struct flash *chip, uint16_t address, uint8_t value)
 {
-    return done(settings_set(chip, address, value)) && get(chip, address) == value;
+    return done(settings_set(chip, HANDSET, address, value)) && get(chip, address) == value;
+}
+
+static bool has_soak(const struct flash *chip, unsigned glaze, struct soak soak)
+{
+    const struct soak found = timer_soak(chip, glaze);
+    return found.hours == soak.hours && found.minutes == soak.minutes;
+}
+
+static bool set_soak(struct flash *chip, unsigned glaze, struct soak soak)
+{
+    return done(timer_set_soak(chip, glaze, soak)) && has_soak(chip, glaze, soak);
 }
 
 /* From the factory to the first firing. */
@@ -57,22 +70,36 @@ static void set_up(struct flash *chip)
     expect(set(chip, EMISSIVITY, 95) && set(chip, UNIT, 1) && set(chip, ALARM_LOW, 40) && set(chip, ALARM_HIGH, 200) &&
                set(chip, BRIGHTNESS, 7) && set(chip, LAST_TARGET, 0),
            "a first setting", 0, 0);
-    printf("paired with %u %u %u %u, %zu settings held\n", first_code[0], first_code[1], first_code[2], first_code[3], KEPT);
+    for (unsigned glaze = 0; glaze < TIMER_GLAZES; glaze++)
+        expect(set_soak(chip, glaze, soaks[glaze]), "a first soak time", 0, 0);
+    printf("paired with %u %u %u %u, %zu settings of the handset held and %u of the timer\n", first_code[0], first_code[1],
+           first_code[2], first_code[3], KEPT, 2 * TIMER_GLAZES);
+    /* Neither can touch what is the other's. */
+    expect(settings_set(chip, HANDSET, ISTROVELL_TIMER_ADDRESS, 9).number == ISTROVELL_OWNER &&
+               settings_set(chip, GLAZE_TIMER, BRIGHTNESS, 9).number == ISTROVELL_OWNER && get(chip, BRIGHTNESS) == 7 &&
+               has_soak(chip, 0, soaks[0]),
+           "an address of the other's", 0, 0);
+    printf("the handset at an address of the timer, and the timer at one of the handset: OWNER\n");
 }
 
-/* The two changes in which power is cut. */
+/* The changes in which power is cut, two of the handset and one of the timer. */
 
 static bool pair_anew(struct flash *chip)
 {
     return done(settings_pair(chip, second_code));
 }
 
-static bool next_target(struct flash *chip)
+static bool soak_longer(struct flash *chip)
 {
-    return done(settings_set(chip, LAST_TARGET, (uint8_t)(get(chip, LAST_TARGET) % 250 + 1)));
+    return done(timer_set_soak(chip, 1, longer));
 }
 
-/* Firing after firing, until the next change needs a move. */
+static bool next_target(struct flash *chip)
+{
+    return done(settings_set(chip, HANDSET, LAST_TARGET, (uint8_t)(get(chip, LAST_TARGET) % 250 + 1)));
+}
+
+/* Firing after firing, with a new soak time now and then, until the next change needs a move. */
 static void use_until_move(struct flash *chip)
 {
     unsigned changes = 0;
@@ -83,8 +110,10 @@ static void use_until_move(struct flash *chip)
         if (copy.steps > 4)
             break;
         *chip = copy;
+        if (changes == 50 || changes == 150) /* long before the move */
+            expect(set_soak(chip, 2, (struct soak){.hours = 2, .minutes = (uint8_t)(changes % 60)}), "a soak time", 0, 0);
     }
-    printf("used for %u changes; the next one moves all settings\n", changes);
+    printf("used for %u changes; the next one moves all settings of both\n", changes);
 }
 
 /* Start-up; power fails again in `cuts` of the recoveries. */
@@ -102,7 +131,7 @@ static unsigned start_again(struct flash *chip, unsigned cuts, unsigned step, un
     return failed;
 }
 
-/* All settings, and the code that a lookup finds, are the same in both. */
+/* All settings of both programs, and the code that a lookup finds, are the same in both. */
 static bool same(const struct flash *one, const struct flash *other)
 {
     uint8_t code[4];
@@ -110,6 +139,9 @@ static bool same(const struct flash *one, const struct flash *other)
         code[digit] = get(other, (uint16_t)(ISTROVELL_PAIRING_ADDRESS + digit));
     for (size_t i = 0; i < KEPT; i++)
         if (get(one, kept[i]) != get(other, kept[i]))
+            return false;
+    for (unsigned glaze = 0; glaze < TIMER_GLAZES; glaze++)
+        if (!has_soak(one, glaze, timer_soak(other, glaze)))
             return false;
     return has_code(one, code);
 }
@@ -137,7 +169,8 @@ static void cut_everywhere(const struct flash *before, bool (*change)(struct fla
             left_new += new;
             if (new && step < first_new)
                 first_new = step;
-            expect(change(&chip) && set(&chip, BRIGHTNESS, 9), "a change afterwards", step, tear);
+            expect(change(&chip) && set(&chip, BRIGHTNESS, 9) && set_soak(&chip, 0, longer), "a change afterwards", step,
+                   tear);
         }
     }
     printf("power cut in each of the %u steps of %s, %u ways each: %u failures, and %u in the recoveries after them\n",
@@ -151,9 +184,11 @@ int main(void)
     set_up(&chip);
     cut_everywhere(&chip, pair_anew, "a pairing");
     expect(pair_anew(&chip) && has_code(&chip, second_code), "the second pairing", 0, 0);
+    cut_everywhere(&chip, soak_longer, "a soak time");
+    expect(soak_longer(&chip) && has_soak(&chip, 1, longer), "the longer soak time", 0, 0);
     use_until_move(&chip);
     cut_everywhere(&chip, next_target, "the move");
-    expect(has_code(&chip, second_code), "the pairing code", 0, 0);
-    printf("pairing code and all other settings: %s\n", faults == 0 ? "kept every time" : "LOST");
+    expect(has_code(&chip, second_code) && has_soak(&chip, 1, longer), "the pairing code and the soak time", 0, 0);
+    printf("pairing code, soak times and all other settings: %s\n", faults == 0 ? "kept every time" : "LOST");
     return faults == 0 ? 0 : 1;
 }

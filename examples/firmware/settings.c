@@ -4,8 +4,9 @@
 #include <stdlib.h>
 #include <string.h>
 
-/* One setting, or a group of them. */
+/* One setting, or a group of them, and whose. */
 struct change {
+    bool timer;
     uint16_t address;
     uint8_t value;
     const uint8_t *group; /* null for one setting; else three bytes for each: its address, low byte first, and its value */
@@ -46,9 +47,9 @@ static struct istrovell_stepped call(const struct change *change, uint16_t allow
     if (change == NULL)
         return istrovell_recover(work, FLASH_BYTES, FLASH_PAGE_BYTES, allowance);
     if (change->group != NULL)
-        return istrovell_write_group(work, FLASH_BYTES, FLASH_PAGE_BYTES, change->group, change->group_length,
-                                     allowance);
-    return istrovell_write(work, FLASH_BYTES, FLASH_PAGE_BYTES, change->address, change->value, allowance);
+        return istrovell_write_group(work, FLASH_BYTES, FLASH_PAGE_BYTES, change->timer, change->group,
+                                     change->group_length, allowance);
+    return istrovell_write(work, FLASH_BYTES, FLASH_PAGE_BYTES, change->timer, change->address, change->value, allowance);
 }
 
 static struct istrovell_stepped carry_all(struct flash *chip, const struct change *change)
@@ -72,9 +73,15 @@ struct istrovell_stepped settings_start(struct flash *chip)
     return carry_all(chip, NULL);
 }
 
-struct istrovell_stepped settings_set(struct flash *chip, uint16_t address, uint8_t value)
+struct istrovell_stepped settings_set(struct flash *chip, bool timer, uint16_t address, uint8_t value)
 {
-    const struct change change = {.address = address, .value = value};
+    const struct change change = {.timer = timer, .address = address, .value = value};
+    return carry_all(chip, &change);
+}
+
+struct istrovell_stepped settings_set_group(struct flash *chip, bool timer, const uint8_t *group, size_t length)
+{
+    const struct change change = {.timer = timer, .group = group, .group_length = length};
     return carry_all(chip, &change);
 }
 
@@ -87,8 +94,7 @@ struct istrovell_stepped settings_pair(struct flash *chip, const uint8_t code[4]
         group[3 * digit + 1] = (uint8_t)(address >> 8);
         group[3 * digit + 2] = code[digit];
     }
-    const struct change change = {.group = group, .group_length = sizeof group};
-    return carry_all(chip, &change);
+    return settings_set_group(chip, HANDSET, group, sizeof group);
 }
 
 /* The word of `work` at this offset, first half first. */

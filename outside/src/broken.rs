@@ -10,9 +10,11 @@ use crate::{Pairing, Reading, Second, Stepped, Store};
 
 mod chips;
 mod groups;
+mod owners;
 
 pub use chips::{WrongChip, WRONG_CHIPS};
 pub use groups::{WrongGroup, WRONG_GROUPS};
+pub use owners::{WrongOwner, WRONG_OWNERS};
 
 #[derive(Clone, Copy, Debug, PartialEq, Eq)]
 pub enum Broken {
@@ -63,9 +65,9 @@ impl Plan for Broken {
         Ok(self.reworn(&seen, chip, self.rechecked(recovery_steps(&seen, chip)?)))
     }
 
-    fn change_steps(&self, image: &[u8], chip: Chip, change: &Change) -> Result<Vec<Step>, u8> {
+    fn change_steps(&self, image: &[u8], chip: Chip, timer: bool, change: &Change) -> Result<Vec<Step>, u8> {
         let seen = self.seen(image, chip);
-        let steps = self.rechecked(change_steps(&seen, chip, change)?);
+        let steps = self.rechecked(change_steps(&seen, chip, timer, change)?);
         let single = match *change {
             Change::Single((address, value)) => Some((address, value, held(&seen, chip).get(&address).copied())),
             Change::Group(_) => None,
@@ -268,17 +270,17 @@ impl Store for Eager {
     fn recover(&self, image: &mut [u8], page_size: u16, allowance: u16) -> Stepped {
         Second.recover(image, page_size, allowance)
     }
-    fn write(&self, image: &mut [u8], page_size: u16, address: u16, value: u8, allowance: u16) -> Stepped {
-        Second.write(image, page_size, address, value, eagerly(allowance))
+    fn write(&self, image: &mut [u8], page_size: u16, timer: bool, address: u16, value: u8, allowance: u16) -> Stepped {
+        Second.write(image, page_size, timer, address, value, eagerly(allowance))
     }
-    fn write_group(&self, image: &mut [u8], page_size: u16, group: &[u8], allowance: u16) -> Stepped {
-        Second.write_group(image, page_size, group, eagerly(allowance))
+    fn write_group(&self, image: &mut [u8], page_size: u16, timer: bool, group: &[u8], allowance: u16) -> Stepped {
+        Second.write_group(image, page_size, timer, group, eagerly(allowance))
     }
-    fn read(&self, image: &[u8], page_size: u16, address: u16) -> Reading {
-        Second.read(image, page_size, address)
+    fn read(&self, image: &[u8], page_size: u16, timer: bool, address: u16) -> Reading {
+        Second.read(image, page_size, timer, address)
     }
-    fn blank_read(&self, image: &[u8], page_size: u16, address: u16) -> Reading {
-        Second.blank_read(image, page_size, address)
+    fn blank_read(&self, image: &[u8], page_size: u16, timer: bool, address: u16) -> Reading {
+        Second.blank_read(image, page_size, timer, address)
     }
     fn lookup(&self, image: &[u8], page_size: u16) -> Pairing {
         Second.lookup(image, page_size)
@@ -354,22 +356,23 @@ impl Store for WrongPairing {
     fn recover(&self, image: &mut [u8], page_size: u16, allowance: u16) -> Stepped {
         Second.recover(image, page_size, allowance)
     }
-    fn write(&self, image: &mut [u8], page_size: u16, address: u16, value: u8, allowance: u16) -> Stepped {
-        let idle = *self == WrongPairing::BlankIsHeld && Second.blank_read(image, page_size, address).value == value;
-        let answer = Second.write(image, page_size, address, value, if idle { 0 } else { allowance });
+    fn write(&self, image: &mut [u8], page_size: u16, timer: bool, address: u16, value: u8, allowance: u16) -> Stepped {
+        let blank = Second.blank_read(image, page_size, timer, address);
+        let idle = *self == WrongPairing::BlankIsHeld && blank.value == value;
+        let answer = Second.write(image, page_size, timer, address, value, if idle { 0 } else { allowance });
         Stepped { finished: answer.finished || idle && answer.number == OK, ..answer }
     }
-    fn write_group(&self, image: &mut [u8], page_size: u16, group: &[u8], allowance: u16) -> Stepped {
-        Second.write_group(image, page_size, group, allowance)
+    fn write_group(&self, image: &mut [u8], page_size: u16, timer: bool, group: &[u8], allowance: u16) -> Stepped {
+        Second.write_group(image, page_size, timer, group, allowance)
     }
-    fn read(&self, image: &[u8], page_size: u16, address: u16) -> Reading {
-        Second.read(image, page_size, address)
+    fn read(&self, image: &[u8], page_size: u16, timer: bool, address: u16) -> Reading {
+        Second.read(image, page_size, timer, address)
     }
-    fn blank_read(&self, image: &[u8], page_size: u16, address: u16) -> Reading {
-        match (self, Second.read(image, page_size, address)) {
+    fn blank_read(&self, image: &[u8], page_size: u16, timer: bool, address: u16) -> Reading {
+        match (self, Second.read(image, page_size, timer, address)) {
             (WrongPairing::BlankIs255, Reading { number: NOT_HELD, .. }) => Reading { number: OK, value: 255 },
             (WrongPairing::BlankIsNotHeld, reading) => reading,
-            _ => Second.blank_read(image, page_size, address),
+            _ => Second.blank_read(image, page_size, timer, address),
         }
     }
     fn lookup(&self, image: &[u8], page_size: u16) -> Pairing {

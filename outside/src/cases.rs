@@ -1,5 +1,5 @@
-//! Which cases of groups, editions and page sizes an image has, and which a group write is. The tests count them by chips, so
-//! that a case that is never met is noticed.
+//! Which cases of groups, editions, page sizes and owners an image has, and which a write or a read is. The tests count
+//! them by chips, so that a case that is never met is noticed.
 
 use std::collections::BTreeMap;
 
@@ -7,6 +7,10 @@ use crate::page::*;
 use crate::rules::*;
 use crate::word::*;
 use crate::Stepped;
+
+mod owners;
+
+pub use owners::{note_owner_of_read, note_owner_of_write, note_owners};
 
 /// How often each case was met.
 pub type Counts = BTreeMap<&'static str, u64>;
@@ -270,7 +274,7 @@ pub fn note_group_write(image: &[u8], chip: Chip, bytes: &[u8], answer: Stepped,
     note(counts, "group write, ADDRESS of another than the first", {
         answer.number == ADDRESS && settings[0].0 != NO_ADDRESS
     });
-    if !has_groups || refused_as_group || wrong_address || answer.number == UNCLEAN {
+    if !has_groups || refused_as_group || wrong_address || matches!(answer.number, UNCLEAN | OWNER) {
         return;
     }
     note_tested_group(image, chip, &change, answer, counts);
@@ -319,8 +323,9 @@ fn note_tested_group(image: &[u8], chip: Chip, change: &Change, answer: Stepped,
         accepted && free < taken && one_cleared && held.len() + new == MOST_HELD,
     );
     note(counts, "group write, 192 held then", accepted && new > 0 && held.len() + new == MOST_HELD);
-    note(counts, "group write, NO ROOM by one", answer.number == NO_ROOM && held.len() + new == MOST_HELD + 1);
-    note(counts, "group write, NO ROOM with room for one", answer.number == NO_ROOM && held.len() < MOST_HELD);
+    let no_room = answer.number == NO_ROOM && held.len() + new > MOST_HELD;
+    note(counts, "group write, NO ROOM by one", no_room && held.len() + new == MOST_HELD + 1);
+    note(counts, "group write, NO ROOM with room for one", no_room && held.len() < MOST_HELD);
     note(counts, "group write, at the last order", accepted && active.order == LAST_ORDER);
     note(counts, "group write, to the last order", accepted && active.order == LAST_ORDER - 1 && free < taken);
     note(counts, "group write, ORDER END", answer.number == ORDER_END);

@@ -144,19 +144,19 @@ impl<S: Store> Store for Guarded<S> {
     fn recover(&self, image: &mut [u8], page_size: u16, allowance: u16) -> Stepped {
         self.call(image, |store, lent| store.recover(lent, page_size, allowance))
     }
-    fn write(&self, image: &mut [u8], page_size: u16, address: u16, value: u8, allowance: u16) -> Stepped {
-        self.call(image, |store, lent| store.write(lent, page_size, address, value, allowance))
+    fn write(&self, image: &mut [u8], page_size: u16, timer: bool, address: u16, value: u8, allowance: u16) -> Stepped {
+        self.call(image, |store, lent| store.write(lent, page_size, timer, address, value, allowance))
     }
-    fn write_group(&self, image: &mut [u8], page_size: u16, group: &[u8], allowance: u16) -> Stepped {
+    fn write_group(&self, image: &mut [u8], page_size: u16, timer: bool, group: &[u8], allowance: u16) -> Stepped {
         self.for_groups.borrow_mut().show_copy(group, self.place, |group| {
-            self.call(image, |store, lent| store.write_group(lent, page_size, group, allowance))
+            self.call(image, |store, lent| store.write_group(lent, page_size, timer, group, allowance))
         })
     }
-    fn read(&self, image: &[u8], page_size: u16, address: u16) -> Reading {
-        self.look(image, |store, lent| store.read(lent, page_size, address))
+    fn read(&self, image: &[u8], page_size: u16, timer: bool, address: u16) -> Reading {
+        self.look(image, |store, lent| store.read(lent, page_size, timer, address))
     }
-    fn blank_read(&self, image: &[u8], page_size: u16, address: u16) -> Reading {
-        self.look(image, |store, lent| store.blank_read(lent, page_size, address))
+    fn blank_read(&self, image: &[u8], page_size: u16, timer: bool, address: u16) -> Reading {
+        self.look(image, |store, lent| store.blank_read(lent, page_size, timer, address))
     }
     fn lookup(&self, image: &[u8], page_size: u16) -> Pairing {
         self.look(image, |store, lent| store.lookup(lent, page_size))

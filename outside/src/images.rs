@@ -20,7 +20,12 @@ const WRONG_LENGTHS: [&[usize]; 2] = [
 pub const WRONG_SIZES: [u16; 18] =
     [0, 1, 4, 8, 256, 512, 1_023, 1_025, 1_026, 1_536, 2_047, 2_049, 2_050, 3_072, 4_096, 8_192, 32_768, 65_535];
 const WEARS: [u16; 9] = [0, 1, 1, 2, 3, 258, 65_533, 65_534, 65_535];
-const HELD_COUNTS: [usize; 12] = [0, 1, 2, 5, 20, 60, 191, 192, 192, 193, 194, 230];
+const HELD_COUNTS: [usize; 16] = [0, 1, 2, 5, 20, 60, 128, 129, 140, 191, 191, 192, 192, 193, 194, 230];
+
+/// Addresses of the handset and of the timer that are often picked: the pairing code, the ends of bytes and the border.
+/// The timer's are those of the handset 32,768 further on, but for the last.
+const SPECIAL: [[u16; 8]; 2] =
+    [[0, 16, 17, 18, 19, 255, 256, 32_767], [32_768, 32_784, 32_785, 32_786, 32_787, 33_023, 33_024, 65_534]];
 
 /// The chip and the image of this seed.
 pub fn image(seed: u64) -> (Chip, Vec<u8>) {
@@ -45,7 +50,8 @@ pub fn image_of(chip: Chip, seed: u64) -> Vec<u8> {
     let mut image = match rng.below(100) {
         0..=24 => worn(chip, rng),
         25..=29 => paired(chip, rng),
-        30..=59 => sensible(chip, rng),
+        30..=53 => sensible(chip, rng),
+        54..=59 => at_the_limit(chip, rng),
         60..=61 => of_both_chips(rng),
         62..=66 => worn_unevenly(chip, rng),
         67..=77 => wild(chip, rng),
@@ -84,21 +90,51 @@ fn some_page_count(chip: Chip, rng: &mut Rng) -> usize {
     }
 }
 
-/// Distinct addresses, the special ones often among them.
-pub fn some_addresses(rng: &mut Rng, count: usize) -> Vec<u16> {
-    let mut addresses = vec![0, 16, 17, 18, 19, 255, 256, 65_534];
+/// Distinct addresses of this owner, the special ones often among them.
+pub fn addresses_of(timer: bool, count: usize, rng: &mut Rng) -> Vec<u16> {
+    let mut addresses = SPECIAL[usize::from(timer)].to_vec();
     rng.shuffle(&mut addresses);
     if rng.one_in(3) {
         addresses.clear();
     }
     addresses.truncate(count);
+    let first = if timer { FIRST_OF_TIMER } else { 0 };
     while addresses.len() < count {
-        let address = if rng.one_in(2) { rng.below(300) } else { rng.below(65_535) } as u16;
+        let address = first + if rng.one_in(2) { rng.below(300) } else { rng.below(32_767) } as u16;
         if !addresses.contains(&address) {
             addresses.push(address);
         }
     }
     addresses
+}
+
+/// How many of so many addresses are to be one owner's: of many, often about as many as it may come to hold.
+fn some_share(count: usize, rng: &mut Rng) -> usize {
+    let any = rng.below(count + 1);
+    let about_the_limit = MOST_HELD_BY_OWNER - 4 + rng.below(8);
+    let often = if about_the_limit > count { any } else { about_the_limit };
+    rng.pick(&[count, count / 2, any, often, often, often])
+}
+
+/// Distinct addresses, so many of one owner and so many of the other, in any order.
+fn shared_addresses(share: usize, rest: usize, rng: &mut Rng) -> Vec<u16> {
+    let timer = rng.one_in(2);
+    let mut addresses = [addresses_of(timer, share, rng), addresses_of(!timer, rest, rng)].concat();
+    rng.shuffle(&mut addresses);
+    addresses
+}
+
+/// Distinct addresses, of neither owner more than it may come to hold.
+pub fn some_addresses(rng: &mut Rng, count: usize) -> Vec<u16> {
+    let most = MOST_HELD_BY_OWNER.min(count);
+    let share = some_share(count, rng).clamp(count - most, most);
+    shared_addresses(share, count - share, rng)
+}
+
+/// Distinct addresses, of which one owner may have too many.
+fn any_addresses(rng: &mut Rng, count: usize) -> Vec<u16> {
+    let share = some_share(count, rng);
+    shared_addresses(share, count - share, rng)
 }
 
 /// A value for a setting, often one of the ends: 0 is what blank reads as, and 255 what it read as once.
@@ -125,9 +161,9 @@ pub fn some_group_size(free: usize, rng: &mut Rng) -> usize {
     }
 }
 
-/// So many settings of different addresses of the pool, or fewer if it has fewer.
-pub fn some_group(pool: &[u16], count: usize, rng: &mut Rng) -> Vec<Setting> {
-    let mut addresses = pool.to_vec();
+/// So many settings of different addresses of the pool that are this owner's, or fewer if it has fewer.
+pub fn some_group(pool: &[u16], timer: bool, count: usize, rng: &mut Rng) -> Vec<Setting> {
+    let mut addresses: Vec<u16> = pool.iter().copied().filter(|&address| owns(timer, address)).collect();
     rng.shuffle(&mut addresses);
     addresses.truncate(count);
     addresses.into_iter().map(|address| (address, some_value(rng))).collect()
@@ -161,18 +197,20 @@ fn formatted(chip: Chip, pages: usize, rng: &mut Rng) -> Vec<u8> {
     image
 }
 
-/// A single setting or, where there are groups, most often a group.
+/// A single setting or, where there are groups, most often a group; of one owner.
 pub fn some_change(image: &[u8], chip: Chip, pool: &[u16], rng: &mut Rng) -> Change {
+    let address = rng.pick(pool);
     if !edition(image, chip).has_groups() || rng.one_in(4) {
-        return Change::Single((rng.pick(pool), some_value(rng)));
+        return Change::Single((address, some_value(rng)));
     }
     let free = free_slots(page_at(image, chip, active_page(image, chip).page)).len();
     let count = some_group_size(free, rng);
-    Change::Group(some_group(pool, count, rng))
+    Change::Group(some_group(pool, is_timers(address), count, rng))
 }
 
-/// What writes to the pool's addresses would do with `count` slots, as far as the active page has room; groups are among
-/// them where there are any. Each changes a value, because a write of held values takes no slot.
+/// What writes to the pool's addresses would do with `count` slots, each by the owner of its address, as far as the
+/// active page has room; groups are among them where there are any. Each changes a value, because a write of held
+/// values takes no slot.
 pub fn fill_active(image: &mut [u8], chip: Chip, count: usize, pool: &[u16], rng: &mut Rng) {
     let mut values = held(image, chip);
     let has_groups = edition(image, chip).has_groups();
@@ -182,7 +220,8 @@ pub fn fill_active(image: &mut [u8], chip: Chip, count: usize, pool: &[u16], rng
     while !free.is_empty() {
         let grouped = has_groups && rng.one_in(20);
         let count = 1 + rng.below(MOST_IN_A_GROUP);
-        let mut settings = if grouped { some_group(pool, count, rng) } else { vec![(rng.pick(pool), 0)] };
+        let address = rng.pick(pool);
+        let mut settings = if grouped { some_group(pool, is_timers(address), count, rng) } else { vec![(address, 0)] };
         let (address, value) = &mut settings[0];
         *value = another_value(values.get(address).copied(), rng);
         let (single, group) = (Change::Single(settings[0]), Change::Group(settings));
@@ -196,7 +235,7 @@ pub fn fill_active(image: &mut [u8], chip: Chip, count: usize, pool: &[u16], rng
 
 /// A change in which power may fail, and recoveries in which it may. False if the image was left unrecovered.
 fn troubled_change(image: &mut [u8], chip: Chip, change: &Change, rng: &mut Rng) -> bool {
-    let Ok(steps) = change_steps(image, chip, change) else {
+    let Ok(steps) = change_steps(image, chip, change.timer(), change) else {
         return false;
     };
     if rng.one_in(2) || steps.is_empty() {
@@ -228,10 +267,10 @@ fn paired(chip: Chip, rng: &mut Rng) -> Vec<u8> {
         }
     }
     if edition(&image, chip).has_groups() && rng.one_in(2) {
-        write_group(&mut image, chip.page_size(), &group_bytes(&code), u16::MAX);
+        write_group(&mut image, chip.page_size(), false, &group_bytes(&code), u16::MAX);
     } else {
         for (address, digit) in code {
-            write(&mut image, chip.page_size(), address, digit, u16::MAX);
+            write(&mut image, chip.page_size(), false, address, digit, u16::MAX);
         }
     }
     image
@@ -249,7 +288,8 @@ fn passing_for_headers(rng: &mut Rng) -> Vec<u8> {
         let kind = rng.pick(&[PLAIN, PLAIN, RECEIVING]);
         let wear = wear_word(300 + order as u16, rng.pick(SMALLER.editions));
         for [low, high, value, _] in [wear, order_word(order, kind), done_word(order)] {
-            write(&mut image, LARGER.page_size(), u16::from_le_bytes([low, high]), value, u16::MAX);
+            let address = u16::from_le_bytes([low, high]);
+            write(&mut image, LARGER.page_size(), is_timers(address), address, value, u16::MAX);
         }
         let count = if rng.one_in(4) { rng.below(LARGER.slots()) } else { LARGER.slots() };
         fill_active(&mut image, LARGER, count, &pool, rng);
@@ -533,10 +573,15 @@ fn rising_orders(count: usize, rng: &mut Rng) -> Vec<u32> {
     orders
 }
 
-/// Pages of these orders that together hold one of the counts in HELD_COUNTS, if they have room for it.
+/// Pages of these orders that together hold one of the counts in HELD_COUNTS, and of either owner any part of it.
 fn used_pages_of(chip: Chip, orders: &[u32], based: bool, rng: &mut Rng) -> Vec<Vec<u8>> {
     let held = rng.pick(&HELD_COUNTS);
-    let pool = some_addresses(rng, held);
+    let pool = any_addresses(rng, held);
+    pages_holding(chip, orders, based, &pool, rng)
+}
+
+/// Pages of these orders that together hold the addresses of the pool, if they have room for them.
+fn pages_holding(chip: Chip, orders: &[u32], based: bool, pool: &[u16], rng: &mut Rng) -> Vec<Vec<u8>> {
     let mut all = Vec::new();
     let mut places = Vec::new();
     for (index, &order) in orders.iter().enumerate() {
@@ -547,7 +592,7 @@ fn used_pages_of(chip: Chip, orders: &[u32], based: bool, rng: &mut Rng) -> Vec<
             1 | 2 => chip.slots() - 1 - rng.below(12),
             _ => chip.slots(),
         };
-        fill_slots(&mut page, count, &pool, rng);
+        fill_slots(&mut page, count, pool, rng);
         places.extend(counting_slots(&page, count).into_iter().map(|slot| (index, slot)));
         all.push(page);
     }
@@ -556,6 +601,24 @@ fn used_pages_of(chip: Chip, orders: &[u32], based: bool, rng: &mut Rng) -> Vec<
         put(&mut all[index], slot_offset(slot), record(address, some_value(rng)));
     }
     all
+}
+
+/// A store without unclean pages in which one owner holds about as many as it may, and both together often 191 or 192.
+fn at_the_limit(chip: Chip, rng: &mut Rng) -> Vec<u8> {
+    let about = 120 + rng.below(12);
+    let own = rng.pick(&[127, 127, 128, 128, 129, about]);
+    let any = own + rng.below(MOST_HELD + 1 - own);
+    let total = rng.pick(&[own, 191, 192, any, any]);
+    let pool = shared_addresses(own, total - own, rng);
+    let pages = 2 + rng.below(2);
+    let orders = rising_orders(1 + rng.below(pages - 1), rng);
+    let based = rng.one_in(2);
+    let mut all = pages_holding(chip, &orders, based, &pool, rng);
+    while all.len() < pages {
+        all.push(cleared_page(chip, rng));
+    }
+    rng.shuffle(&mut all);
+    in_some_edition(chip, all, rng)
 }
 
 /// A page that is neither used nor cleared: an old one, a receiving one or a bad one.

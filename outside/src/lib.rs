@@ -71,23 +71,26 @@ impl Pairing {
     }
 }
 
-/// The seven calls, each with the page size that it names. Every test driver takes any `Store`.
+/// The seven calls, each with the page size that it names. Writes and reads name the owner too: the glaze timer if
+/// `timer`, or else the handset. Every test driver takes any `Store`.
 pub trait Store {
     /// Only the smaller chip has two editions, and only there is `second_edition` looked at.
     fn format(&self, image: &mut [u8], page_size: u16, second_edition: bool) -> u8;
     fn recover(&self, image: &mut [u8], page_size: u16, allowance: u16) -> Stepped;
-    fn write(&self, image: &mut [u8], page_size: u16, address: u16, value: u8, allowance: u16) -> Stepped;
+    fn write(&self, image: &mut [u8], page_size: u16, timer: bool, address: u16, value: u8, allowance: u16) -> Stepped;
     /// `group` has three bytes for each setting: its address, low byte first, then its value.
-    fn write_group(&self, image: &mut [u8], page_size: u16, group: &[u8], allowance: u16) -> Stepped;
-    fn read(&self, image: &[u8], page_size: u16, address: u16) -> Reading;
-    fn blank_read(&self, image: &[u8], page_size: u16, address: u16) -> Reading;
+    fn write_group(&self, image: &mut [u8], page_size: u16, timer: bool, group: &[u8], allowance: u16) -> Stepped;
+    fn read(&self, image: &[u8], page_size: u16, timer: bool, address: u16) -> Reading;
+    fn blank_read(&self, image: &[u8], page_size: u16, timer: bool, address: u16) -> Reading;
     fn lookup(&self, image: &[u8], page_size: u16) -> Pairing;
 
     /// The write or the group write that makes this change.
-    fn change(&self, image: &mut [u8], page_size: u16, change: &Change, allowance: u16) -> Stepped {
+    fn change(&self, image: &mut [u8], page_size: u16, timer: bool, change: &Change, allowance: u16) -> Stepped {
         match change {
-            &Change::Single((address, value)) => self.write(image, page_size, address, value, allowance),
-            Change::Group(settings) => self.write_group(image, page_size, &rules::group_bytes(settings), allowance),
+            &Change::Single((address, value)) => self.write(image, page_size, timer, address, value, allowance),
+            Change::Group(settings) => {
+                self.write_group(image, page_size, timer, &rules::group_bytes(settings), allowance)
+            }
         }
     }
 }

@@ -32,6 +32,7 @@ extern "C" {
         image: *mut u8,
         length: usize,
         page_size: u16,
+        timer: bool,
         address: u16,
         value: u8,
         allowance: u16,
@@ -40,12 +41,13 @@ extern "C" {
         image: *mut u8,
         length: usize,
         page_size: u16,
+        timer: bool,
         group: *const u8,
         group_length: usize,
         allowance: u16,
     ) -> CStepped;
-    fn istrovell_read(image: *const u8, length: usize, page_size: u16, address: u16) -> CReading;
-    fn istrovell_blank_read(image: *const u8, length: usize, page_size: u16, address: u16) -> CReading;
+    fn istrovell_read(image: *const u8, length: usize, page_size: u16, timer: bool, address: u16) -> CReading;
+    fn istrovell_blank_read(image: *const u8, length: usize, page_size: u16, timer: bool, address: u16) -> CReading;
     fn istrovell_lookup(image: *const u8, length: usize, page_size: u16) -> CPairing;
 }
 
@@ -61,18 +63,22 @@ impl Store for Library {
     fn recover(&self, image: &mut [u8], page_size: u16, allowance: u16) -> Stepped {
         stepped(unsafe { istrovell_recover(image.as_mut_ptr(), image.len(), page_size, allowance) })
     }
-    fn write(&self, image: &mut [u8], page_size: u16, address: u16, value: u8, allowance: u16) -> Stepped {
-        stepped(unsafe { istrovell_write(image.as_mut_ptr(), image.len(), page_size, address, value, allowance) })
+    fn write(&self, image: &mut [u8], page_size: u16, timer: bool, address: u16, value: u8, allowance: u16) -> Stepped {
+        stepped(unsafe {
+            istrovell_write(image.as_mut_ptr(), image.len(), page_size, timer, address, value, allowance)
+        })
     }
-    fn write_group(&self, image: &mut [u8], page_size: u16, group: &[u8], allowance: u16) -> Stepped {
+    fn write_group(&self, image: &mut [u8], page_size: u16, timer: bool, group: &[u8], allowance: u16) -> Stepped {
         let (bytes, length) = (group.as_ptr(), group.len());
-        stepped(unsafe { istrovell_write_group(image.as_mut_ptr(), image.len(), page_size, bytes, length, allowance) })
+        stepped(unsafe {
+            istrovell_write_group(image.as_mut_ptr(), image.len(), page_size, timer, bytes, length, allowance)
+        })
     }
-    fn read(&self, image: &[u8], page_size: u16, address: u16) -> Reading {
-        reading(unsafe { istrovell_read(image.as_ptr(), image.len(), page_size, address) })
+    fn read(&self, image: &[u8], page_size: u16, timer: bool, address: u16) -> Reading {
+        reading(unsafe { istrovell_read(image.as_ptr(), image.len(), page_size, timer, address) })
     }
-    fn blank_read(&self, image: &[u8], page_size: u16, address: u16) -> Reading {
-        reading(unsafe { istrovell_blank_read(image.as_ptr(), image.len(), page_size, address) })
+    fn blank_read(&self, image: &[u8], page_size: u16, timer: bool, address: u16) -> Reading {
+        reading(unsafe { istrovell_blank_read(image.as_ptr(), image.len(), page_size, timer, address) })
     }
     fn lookup(&self, image: &[u8], page_size: u16) -> Pairing {
         pairing(unsafe { istrovell_lookup(image.as_ptr(), image.len(), page_size) })

@@ -15,8 +15,27 @@ pub const NO_ROOM: u8 = 6;
 pub const ORDER_END: u8 = 7;
 pub const NOT_HELD: u8 = 8;
 pub const GROUP: u8 = 9;
+pub const OWNER: u8 = 11;
+
+/// How many numbers there are from 0 on, to count answers by them. None is 10.
+pub const NUMBERS: usize = 12;
 
 pub const MOST_HELD: usize = 192;
+
+/// What an owner may come to hold. A store that holds more of one was not made so by these calls, but it is a store.
+pub const MOST_HELD_BY_OWNER: usize = 128;
+
+/// The handset has the addresses before this one, the glaze timer has it and those behind.
+pub const FIRST_OF_TIMER: u16 = 32_768;
+
+pub fn is_timers(address: u16) -> bool {
+    address >= FIRST_OF_TIMER
+}
+
+/// Whether the address is of this owner: the timer, or else the handset.
+pub fn owns(timer: bool, address: u16) -> bool {
+    is_timers(address) == timer
+}
 
 /// A used page: where it is and its order.
 #[derive(Clone, Copy, Debug, PartialEq, Eq)]
@@ -58,6 +77,11 @@ impl Change {
             Change::Single(setting) => std::slice::from_mut(setting),
             Change::Group(settings) => settings,
         }
+    }
+
+    /// Whose change it is to be, by its first address; of a group of nothing, the handset's.
+    pub fn timer(&self) -> bool {
+        self.settings().first().is_some_and(|&(address, _)| is_timers(address))
     }
 
     pub fn names(&self, address: u16) -> bool {
@@ -173,6 +197,11 @@ fn held_count(image: &[u8], chip: Chip) -> usize {
     count
 }
 
+/// How many of the held addresses are this owner's.
+pub fn held_by(held: &BTreeMap<u16, u8>, timer: bool) -> usize {
+    held.keys().filter(|&&address| owns(timer, address)).count()
+}
+
 /// Whether each address of the change has its value already.
 pub fn is_held(image: &[u8], chip: Chip, change: &Change) -> bool {
     change.settings().iter().all(|&(address, new)| value(image, chip, address) == Some(new))
@@ -263,7 +292,7 @@ pub fn test_store(image: &[u8], chip: Chip) -> Result<(), u8> {
 }
 
 /// Test 4.
-fn test_clean(image: &[u8], chip: Chip) -> Result<(), u8> {
+pub fn test_clean(image: &[u8], chip: Chip) -> Result<(), u8> {
     if !unclean_pages(image, chip).is_empty() || slot_to_abandon(image, chip).is_some() {
         return Err(UNCLEAN);
     }
@@ -293,26 +322,51 @@ pub fn test_address(address: u16) -> Result<(), u8> {
     Ok(())
 }
 
-/// Tests 1 to 7, and 9 behind 4. A change whose values are all held is not tested for 6 and 7.
-pub fn test_change(image: &[u8], chip: Chip, change: &Change) -> Result<(), u8> {
-    test_store(image, chip)?;
-    test_clean(image, chip)?;
-    test_group(image, chip, change)?;
-    for &(address, _) in change.settings() {
-        test_address(address)?;
+/// Test 11, straight after 5.
+pub fn test_owner(timer: bool, address: u16) -> Result<(), u8> {
+    if !owns(timer, address) {
+        return Err(OWNER);
     }
-    let held = held(image, chip);
-    if change.settings().iter().all(|(address, value)| held.get(address) == Some(value)) {
-        return Ok(());
-    }
+    Ok(())
+}
+
+/// Test 6, of the new addresses together. Without a new one there is room, however many its owner holds.
+fn test_room(held: &BTreeMap<u16, u8>, timer: bool, change: &Change) -> Result<(), u8> {
     let new = change.settings().iter().filter(|(address, _)| !held.contains_key(address)).count();
-    if held.len() + new > MOST_HELD {
+    let too_many = held.len() + new > MOST_HELD;
+    let too_many_of_owner = held_by(held, timer) + new > MOST_HELD_BY_OWNER;
+    if new > 0 && (too_many || too_many_of_owner) {
         return Err(NO_ROOM);
     }
+    Ok(())
+}
+
+/// Test 7.
+pub fn test_order(image: &[u8], chip: Chip, change: &Change) -> Result<(), u8> {
     let active = active_page(image, chip);
     let new_page_needed = free_slots(page_at(image, chip, active.page)).len() < change.words().len();
     if new_page_needed && active.order == LAST_ORDER {
         return Err(ORDER_END);
     }
     Ok(())
+}
+
+/// Tests 1 to 7, with 9 behind 4 and 11 behind 5: each of them of all addresses before the next. A change whose values
+/// are all held is not tested for 6 and 7.
+pub fn test_change(image: &[u8], chip: Chip, timer: bool, change: &Change) -> Result<(), u8> {
+    test_store(image, chip)?;
+    test_clean(image, chip)?;
+    test_group(image, chip, change)?;
+    for &(address, _) in change.settings() {
+        test_address(address)?;
+    }
+    for &(address, _) in change.settings() {
+        test_owner(timer, address)?;
+    }
+    let held = held(image, chip);
+    if change.settings().iter().all(|(address, value)| held.get(address) == Some(value)) {
+        return Ok(());
+    }
+    test_room(&held, timer, change)?;
+    test_order(image, chip, change)
 }

@@ -19,17 +19,17 @@ impl Store for Second {
     fn recover(&self, image: &mut [u8], page_size: u16, allowance: u16) -> Stepped {
         recover(image, page_size, allowance)
     }
-    fn write(&self, image: &mut [u8], page_size: u16, address: u16, value: u8, allowance: u16) -> Stepped {
-        write(image, page_size, address, value, allowance)
+    fn write(&self, image: &mut [u8], page_size: u16, timer: bool, address: u16, value: u8, allowance: u16) -> Stepped {
+        write(image, page_size, timer, address, value, allowance)
     }
-    fn write_group(&self, image: &mut [u8], page_size: u16, group: &[u8], allowance: u16) -> Stepped {
-        write_group(image, page_size, group, allowance)
+    fn write_group(&self, image: &mut [u8], page_size: u16, timer: bool, group: &[u8], allowance: u16) -> Stepped {
+        write_group(image, page_size, timer, group, allowance)
     }
-    fn read(&self, image: &[u8], page_size: u16, address: u16) -> Reading {
-        read(image, page_size, address)
+    fn read(&self, image: &[u8], page_size: u16, timer: bool, address: u16) -> Reading {
+        read(image, page_size, timer, address)
     }
-    fn blank_read(&self, image: &[u8], page_size: u16, address: u16) -> Reading {
-        blank_read(image, page_size, address)
+    fn blank_read(&self, image: &[u8], page_size: u16, timer: bool, address: u16) -> Reading {
+        blank_read(image, page_size, timer, address)
     }
     fn lookup(&self, image: &[u8], page_size: u16) -> Pairing {
         lookup(image, page_size)
@@ -181,17 +181,17 @@ pub fn recover(image: &mut [u8], page_size: u16, allowance: u16) -> Stepped {
     })
 }
 
-pub fn write(image: &mut [u8], page_size: u16, address: u16, value: u8, allowance: u16) -> Stepped {
-    do_change(image, page_size, &Change::Single((address, value)), allowance)
+pub fn write(image: &mut [u8], page_size: u16, timer: bool, address: u16, value: u8, allowance: u16) -> Stepped {
+    do_change(image, page_size, timer, &Change::Single((address, value)), allowance)
 }
 
-pub fn write_group(image: &mut [u8], page_size: u16, group: &[u8], allowance: u16) -> Stepped {
-    do_change(image, page_size, &Change::group(group), allowance)
+pub fn write_group(image: &mut [u8], page_size: u16, timer: bool, group: &[u8], allowance: u16) -> Stepped {
+    do_change(image, page_size, timer, &Change::group(group), allowance)
 }
 
-fn do_change(image: &mut [u8], page_size: u16, change: &Change, allowance: u16) -> Stepped {
+fn do_change(image: &mut [u8], page_size: u16, timer: bool, change: &Change, allowance: u16) -> Stepped {
     on_chip(page_size, Stepped::refused, |chip| {
-        test_change(image, chip, change)?;
+        test_change(image, chip, timer, change)?;
         let already_held = is_held(image, chip, change);
         let edition = edition(image, chip);
         let mut flash = Flash::new(image, chip, edition, allowance);
@@ -202,16 +202,17 @@ fn do_change(image: &mut [u8], page_size: u16, change: &Change, allowance: u16) 
     })
 }
 
-pub fn read(image: &[u8], page_size: u16, address: u16) -> Reading {
+pub fn read(image: &[u8], page_size: u16, timer: bool, address: u16) -> Reading {
     on_chip(page_size, Reading::refused, |chip| {
         test_store(image, chip)?;
         test_address(address)?;
+        test_owner(timer, address)?;
         Ok(Reading { number: OK, value: value(image, chip, address).ok_or(NOT_HELD)? })
     })
 }
 
-pub fn blank_read(image: &[u8], page_size: u16, address: u16) -> Reading {
-    let reading = read(image, page_size, address);
+pub fn blank_read(image: &[u8], page_size: u16, timer: bool, address: u16) -> Reading {
+    let reading = read(image, page_size, timer, address);
     if reading.number == NOT_HELD {
         return Reading { number: OK, value: 0 };
     }

@@ -126,12 +126,12 @@ pub fn recovery_steps(image: &[u8], chip: Chip) -> Result<Vec<Step>, u8> {
 }
 
 /// The steps of a write or a group write.
-pub fn change_steps(image: &[u8], chip: Chip, change: &Change) -> Result<Vec<Step>, u8> {
-    test_change(image, chip, change)?;
+pub fn change_steps(image: &[u8], chip: Chip, timer: bool, change: &Change) -> Result<Vec<Step>, u8> {
+    test_change(image, chip, timer, change)?;
     Ok(accepted_steps(image, chip, change))
 }
 
-/// The same, of a change that is known to be accepted.
+/// The same, of a change that is known to be accepted: whose it is makes no difference any more.
 pub fn accepted_steps(image: &[u8], chip: Chip, change: &Change) -> Vec<Step> {
     if is_held(image, chip, change) {
         return Vec::new();
@@ -189,7 +189,7 @@ pub trait Plan {
         format_steps(image, chip, chip.told(second_edition))
     }
     fn recovery_steps(&self, image: &[u8], chip: Chip) -> Result<Vec<Step>, u8>;
-    fn change_steps(&self, image: &[u8], chip: Chip, change: &Change) -> Result<Vec<Step>, u8>;
+    fn change_steps(&self, image: &[u8], chip: Chip, timer: bool, change: &Change) -> Result<Vec<Step>, u8>;
     /// The group in the bytes that a group write is lent.
     fn group(&self, bytes: &[u8]) -> Change {
         Change::group(bytes)
@@ -198,14 +198,28 @@ pub trait Plan {
     fn seen(&self, image: &[u8], _chip: Chip) -> Vec<u8> {
         image.to_vec()
     }
+    /// Whether an image is accepted.
+    fn test_store(&self, seen: &[u8], chip: Chip) -> Result<(), u8> {
+        test_store(seen, chip)
+    }
+    /// What a read finds among these settings.
+    fn value(&self, held: &BTreeMap<u16, u8>, timer: bool, address: u16) -> Result<Option<u8>, u8> {
+        test_address(address)?;
+        test_owner(timer, address)?;
+        Ok(held.get(&address).copied())
+    }
+    /// What a blank read finds.
+    fn blank_value(&self, held: &BTreeMap<u16, u8>, timer: bool, address: u16) -> Result<u8, u8> {
+        Ok(self.value(held, timer, address)?.unwrap_or(0))
+    }
 }
 
 impl Plan for Second {
     fn recovery_steps(&self, image: &[u8], chip: Chip) -> Result<Vec<Step>, u8> {
         recovery_steps(image, chip)
     }
-    fn change_steps(&self, image: &[u8], chip: Chip, change: &Change) -> Result<Vec<Step>, u8> {
-        change_steps(image, chip, change)
+    fn change_steps(&self, image: &[u8], chip: Chip, timer: bool, change: &Change) -> Result<Vec<Step>, u8> {
+        change_steps(image, chip, timer, change)
     }
 }
 
@@ -235,14 +249,8 @@ impl<P: Plan> Stepwise<P> {
     fn held(&self, image: &[u8], page_size: u16) -> Result<BTreeMap<u16, u8>, u8> {
         let chip = self.0.chip(page_size)?;
         let seen = self.0.seen(image, chip);
-        test_store(&seen, chip)?;
+        self.0.test_store(&seen, chip)?;
         Ok(held(&seen, chip))
-    }
-
-    fn value(&self, image: &[u8], page_size: u16, address: u16) -> Result<Option<u8>, u8> {
-        let held = self.held(image, page_size)?;
-        test_address(address)?;
-        Ok(held.get(&address).copied())
     }
 }
 
@@ -253,24 +261,24 @@ impl<P: Plan> Store for Stepwise<P> {
     fn recover(&self, image: &mut [u8], page_size: u16, allowance: u16) -> Stepped {
         self.run(image, page_size, allowance, P::recovery_steps)
     }
-    fn write(&self, image: &mut [u8], page_size: u16, address: u16, value: u8, allowance: u16) -> Stepped {
+    fn write(&self, image: &mut [u8], page_size: u16, timer: bool, address: u16, value: u8, allowance: u16) -> Stepped {
         let change = Change::Single((address, value));
-        self.run(image, page_size, allowance, |plan, image, chip| plan.change_steps(image, chip, &change))
+        self.run(image, page_size, allowance, |plan, image, chip| plan.change_steps(image, chip, timer, &change))
     }
-    fn write_group(&self, image: &mut [u8], page_size: u16, group: &[u8], allowance: u16) -> Stepped {
+    fn write_group(&self, image: &mut [u8], page_size: u16, timer: bool, group: &[u8], allowance: u16) -> Stepped {
         let change = self.0.group(group);
-        self.run(image, page_size, allowance, |plan, image, chip| plan.change_steps(image, chip, &change))
+        self.run(image, page_size, allowance, |plan, image, chip| plan.change_steps(image, chip, timer, &change))
     }
-    fn read(&self, image: &[u8], page_size: u16, address: u16) -> Reading {
-        match self.value(image, page_size, address) {
+    fn read(&self, image: &[u8], page_size: u16, timer: bool, address: u16) -> Reading {
+        match self.held(image, page_size).and_then(|held| self.0.value(&held, timer, address)) {
             Ok(Some(value)) => Reading { number: OK, value },
             Ok(None) => Reading::refused(NOT_HELD),
             Err(number) => Reading::refused(number),
         }
     }
-    fn blank_read(&self, image: &[u8], page_size: u16, address: u16) -> Reading {
-        match self.value(image, page_size, address) {
-            Ok(held) => Reading { number: OK, value: held.unwrap_or(0) },
+    fn blank_read(&self, image: &[u8], page_size: u16, timer: bool, address: u16) -> Reading {
+        match self.held(image, page_size).and_then(|held| self.0.blank_value(&held, timer, address)) {
+            Ok(value) => Reading { number: OK, value },
             Err(number) => Reading::refused(number),
         }
     }

@@ -53,8 +53,9 @@ fn carry(chip: Chip, image: &[u8], plan: &[Step], call: impl Fn(&mut [u8], u16) 
 #[derive(Default, Debug)]
 struct Tally {
     recoveries: u64,
-    writes: u64,
-    group_writes: u64,
+    /// By the handset and by the timer.
+    writes: [u64; 2],
+    group_writes: [u64; 2],
     moves: u64,
     /// Steps that change nothing: the value 65,535 programmed, or a page erased that reads 255 throughout.
     idle: u64,
@@ -71,13 +72,15 @@ fn carry_image(store: &dyn Store, seed: u64, tallies: &mut [Tally; 2]) -> Result
     tally.recoveries += 1;
     let mut recovered = image;
     recover(&mut recovered, size, u16::MAX);
-    let pool: Vec<u16> = held(&recovered, chip).into_keys().chain([7]).collect();
+    let pool: Vec<u16> = held(&recovered, chip).into_keys().chain([7, 40_000]).collect();
     let change = some_change(&recovered, chip, &pool, &mut Rng::new(seed));
-    if let Ok(plan) = change_steps(&recovered, chip, &change) {
-        carry(chip, &recovered, &plan, |work, allowance| store.change(work, size, &change, allowance))?;
+    let timer = change.timer();
+    if let Ok(plan) = change_steps(&recovered, chip, timer, &change) {
+        carry(chip, &recovered, &plan, |work, allowance| store.change(work, size, timer, &change, allowance))?;
+        let which = usize::from(timer);
         match change {
-            Change::Single(_) => tally.writes += 1,
-            Change::Group(_) => tally.group_writes += 1,
+            Change::Single(_) => tally.writes[which] += 1,
+            Change::Group(_) => tally.group_writes[which] += 1,
         }
         tally.moves += u64::from(plan.iter().any(|step| matches!(step, Step::Erase { .. })));
         let idle = |step: &&Step| matches!(step, Step::Program { value: 65_535, .. });
@@ -95,8 +98,9 @@ fn the_header_finds_each_step() {
     }
     for (chip, tally) in CHIPS.iter().zip(&tallies) {
         println!("carried at {}: {tally:?}", chip.page_size());
-        let met =
-            tally.recoveries > 0 && tally.writes > 0 && tally.group_writes > 0 && tally.moves > 0 && tally.idle > 0;
+        let by_both = |counts: [u64; 2]| counts.iter().all(|&count| count > 0);
+        let written = by_both(tally.writes) && by_both(tally.group_writes);
+        let met = tally.recoveries > 0 && written && tally.moves > 0 && tally.idle > 0;
         assert!(met || seeds.len() < 1_500);
     }
 }

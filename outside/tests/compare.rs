@@ -5,20 +5,21 @@
 //! `second` does them against the lists of steps of `steps`, run one step at a time.
 //!
 //! A broken store that this catches: a write that does all its steps at allowance 1 (`Eager`); the others are in
-//! `broken_stores_are_caught`, `wrong_pairings_are_caught`, `wrong_groups_are_caught` and `wrong_chips_are_caught`, and
-//! listings that miscount in `wrong_listings_are_caught`. ISTROVELL_IMAGES says how many images, ISTROVELL_SEED runs one
-//! alone.
+//! `broken_stores_are_caught`, `wrong_pairings_are_caught`, `wrong_groups_are_caught`, `wrong_chips_are_caught` and
+//! `wrong_owners_are_caught`, and listings that miscount in `wrong_listings_are_caught`. ISTROVELL_IMAGES says how many
+//! images, ISTROVELL_SEED runs one alone.
 
 use std::collections::BTreeMap;
 use std::io::Write;
 use std::process::{Command, Stdio};
 use std::time::Instant;
 
-use outside::broken::{Broken, Eager, WrongChip, WrongGroup};
-use outside::broken::{WRONG_CHIPS, WRONG_GROUPS, WRONG_LISTINGS, WRONG_PAIRINGS, WRONG_WEARS};
+use outside::broken::{Broken, Eager, WrongChip, WrongGroup, WrongOwner};
+use outside::broken::{WRONG_CHIPS, WRONG_GROUPS, WRONG_LISTINGS, WRONG_OWNERS, WRONG_PAIRINGS, WRONG_WEARS};
 use outside::cases::{note_editions, note_group_write, note_groups, note_other_size, note_slots, rare, Counts};
+use outside::cases::{note_owner_of_read, note_owner_of_write, note_owners};
 use outside::guard::{note_seed, Guarded, Place};
-use outside::images::{self, some_group_size, some_value, WRONG_SIZES};
+use outside::images::{self, addresses_of, some_group_size, some_value, WRONG_SIZES};
 use outside::page::*;
 use outside::rng::{seeds, Rng};
 use outside::rules::*;
@@ -35,10 +36,10 @@ const SUBJECT: Stepwise<Second> = Stepwise(Second);
 enum Call {
     Format { second_edition: bool },
     Recover { allowance: u16 },
-    Write { address: u16, value: u8, allowance: u16 },
-    WriteGroup { group: Vec<u8>, allowance: u16 },
-    Read { address: u16 },
-    BlankRead { address: u16 },
+    Write { timer: bool, address: u16, value: u8, allowance: u16 },
+    WriteGroup { timer: bool, group: Vec<u8>, allowance: u16 },
+    Read { timer: bool, address: u16 },
+    BlankRead { timer: bool, address: u16 },
     Lookup,
 }
 
@@ -57,14 +58,14 @@ impl Call {
         match *self {
             Call::Format { second_edition } => Answer::Number(store.format(image, size, second_edition)),
             Call::Recover { allowance } => Answer::Stepped(store.recover(image, size, allowance)),
-            Call::Write { address, value, allowance } => {
-                Answer::Stepped(store.write(image, size, address, value, allowance))
+            Call::Write { timer, address, value, allowance } => {
+                Answer::Stepped(store.write(image, size, timer, address, value, allowance))
             }
-            Call::WriteGroup { ref group, allowance } => {
-                Answer::Stepped(store.write_group(image, size, group, allowance))
+            Call::WriteGroup { timer, ref group, allowance } => {
+                Answer::Stepped(store.write_group(image, size, timer, group, allowance))
             }
-            Call::Read { address } => Answer::Reading(store.read(image, size, address)),
-            Call::BlankRead { address } => Answer::Reading(store.blank_read(image, size, address)),
+            Call::Read { timer, address } => Answer::Reading(store.read(image, size, timer, address)),
+            Call::BlankRead { timer, address } => Answer::Reading(store.blank_read(image, size, timer, address)),
             Call::Lookup => Answer::Pairing(store.lookup(image, size)),
         }
     }
@@ -106,20 +107,21 @@ struct Tally {
     wrong_sizes: BTreeMap<u16, [u64; 7]>,
     /// Answers by number at the other chip's size: of the image of a seed, and of what a format and calls at the chip's own
     /// size left; by the chip.
-    at_other_size: [[u64; 10]; 2],
-    formatted_at_other_size: [[u64; 10]; 2],
+    at_other_size: [[u64; NUMBERS]; 2],
+    formatted_at_other_size: [[u64; NUMBERS]; 2],
 }
 
 #[derive(Default)]
 struct ChipTally {
-    numbers: [[u64; 10]; 7],
+    numbers: [[u64; NUMBERS]; 7],
     codes: Codes,
     /// Accepted writes, and accepted group writes, by the greatest number of steps they did: 0, 1, 2, 3, 4, more.
     steps: [[u64; 6]; 2],
     unfinished: u64,
     /// Images that are accepted, by pages.
     pages: BTreeMap<usize, u64>,
-    /// The groups, editions and slots of the images, what they are at the other size, and the cases of group writes.
+    /// The groups, editions, slots and owners of the images, what they are at the other size, and the cases of writes
+    /// and reads.
     cases: Counts,
 }
 
@@ -167,6 +169,7 @@ impl Tally {
             *tally.pages.entry(page_count(image, chip)).or_default() += 1;
             note_groups(image, chip, &mut tally.cases);
             note_slots(image, chip, &mut tally.cases);
+            note_owners(image, chip, &mut tally.cases);
         }
     }
 
@@ -183,10 +186,10 @@ impl Tally {
         }
         println!("  calls that name a size of no chip: {:?}", self.wrong_sizes);
         for (chip, numbers) in CHIPS.iter().zip(self.at_other_size) {
-            println!("  images of {} at the other size, answers by number 0 to 9: {numbers:?}", chip.page_size());
+            println!("  images of {} at the other size, answers by number 0 to 11: {numbers:?}", chip.page_size());
         }
         for (chip, numbers) in CHIPS.iter().zip(self.formatted_at_other_size) {
-            println!("  formatted at {}, at the other size, answers by number 0 to 9: {numbers:?}", chip.page_size());
+            println!("  formatted at {}, at the other size, answers by number 0 to 11: {numbers:?}", chip.page_size());
         }
     }
 
@@ -196,7 +199,7 @@ impl Tally {
         for size in WRONG_SIZES {
             assert!(self.wrong_sizes[&size].iter().all(|&count| count > 0), "{size}: {:?}", self.wrong_sizes[&size]);
         }
-        let met = |numbers: &[u64; 10], number: u8| numbers[usize::from(number)] > 0;
+        let met = |numbers: &[u64; NUMBERS], number: u8| numbers[usize::from(number)] > 0;
         for numbers in &self.at_other_size {
             assert!([OK, SIZE, NO_STORE, DAMAGED, UNCLEAN, NOT_HELD].iter().all(|&number| met(numbers, number)));
         }
@@ -211,10 +214,19 @@ impl ChipTally {
         self.numbers[call.index()][usize::from(answer.number())] += 1;
         match (call, answer) {
             (_, Answer::Pairing(answer)) if answer.number == OK => self.codes.count(image, chip, answer),
-            (Call::Write { .. }, Answer::Stepped(answer)) => self.count_steps(0, answer),
-            (Call::WriteGroup { group, .. }, Answer::Stepped(answer)) => {
+            (&Call::Write { timer, address, value, .. }, Answer::Stepped(answer)) => {
+                self.count_steps(0, answer);
+                let change = Change::Single((address, value));
+                note_owner_of_write(image, chip, timer, &change, answer, &mut self.cases);
+            }
+            (Call::WriteGroup { timer, group, .. }, Answer::Stepped(answer)) => {
                 self.count_steps(1, answer);
                 note_group_write(image, chip, group, answer, &mut self.cases);
+                note_owner_of_write(image, chip, *timer, &Change::group(group), answer, &mut self.cases);
+            }
+            (&Call::Read { timer, address } | &Call::BlankRead { timer, address }, Answer::Reading(answer)) => {
+                let blank = matches!(call, Call::BlankRead { .. });
+                note_owner_of_read(image, chip, timer, address, blank, answer.number, &mut self.cases);
             }
             _ => {}
         }
@@ -230,7 +242,7 @@ impl ChipTally {
     fn print(&self) {
         println!("  stores by pages: {:?}", self.pages);
         for (name, numbers) in CALL_NAMES.iter().zip(self.numbers) {
-            println!("  {name:11} answers by number 0 to 9: {numbers:?}");
+            println!("  {name:11} answers by number 0 to 11: {numbers:?}");
         }
         let [writes, group_writes] = self.steps;
         println!("  writes of 0, 1, 2, 3, 4 and more steps: {writes:?}, group writes: {group_writes:?}");
@@ -246,14 +258,14 @@ impl ChipTally {
         let given: [&[u8]; 7] = [
             &[0, 1],
             &[0, 1, 2, 3],
-            &[0, 1, 2, 3, 4, 5, 6, 7],
-            &[0, 1, 2, 3, 4, 5, 6, 7, 9],
-            &[0, 1, 2, 3, 5, 8],
-            &[0, 1, 2, 3, 5],
+            &[0, 1, 2, 3, 4, 5, 6, 7, 11],
+            &[0, 1, 2, 3, 4, 5, 6, 7, 9, 11],
+            &[0, 1, 2, 3, 5, 8, 11],
+            &[0, 1, 2, 3, 5, 11],
             &[0, 1, 2, 3],
         ];
         for call in 0..7 {
-            for number in 0..10 {
+            for number in 0..NUMBERS {
                 let expected = given[call].contains(&(number as u8));
                 let met = self.numbers[call][number] > 0;
                 assert_eq!(met, expected, "{} met number {number}: {met}", CALL_NAMES[call]);
@@ -299,20 +311,28 @@ fn compare_call(
     Ok((number, after))
 }
 
-/// Held addresses, one named in any slot at all, special ones and one at random.
+/// Held addresses, one that is 32,768 on or back from such a one, one named in any slot at all, special ones and one at
+/// random.
 fn addresses_for(image: &[u8], chip: Chip, rng: &mut Rng) -> Vec<u16> {
     let mut addresses = Vec::new();
     if test_size(image, chip).is_ok() {
         let held: Vec<u16> = held(image, chip).into_keys().collect();
         if !held.is_empty() {
-            addresses.extend([rng.pick(&held), rng.pick(&held)]);
+            let twin = rng.pick(&held) ^ FIRST_OF_TIMER;
+            addresses.extend([rng.pick(&held), rng.pick(&held), twin]);
         }
         let page = page_at(image, chip, rng.below(page_count(image, chip)));
         let word = slot_word(page, rng.below(chip.slots()));
         addresses.push(u16::from_le_bytes([word[0], word[1]]));
     }
-    addresses.extend([rng.below(65_536) as u16, 16 + rng.below(4) as u16, 65_534, NO_ADDRESS]);
+    let border = rng.pick(&[FIRST_OF_TIMER - 1, FIRST_OF_TIMER]);
+    addresses.extend([rng.below(65_536) as u16, 16 + rng.below(4) as u16, border, 65_534, NO_ADDRESS]);
     addresses
+}
+
+/// The owner of the address or, now and then, the other.
+fn some_owner(address: u16, rng: &mut Rng) -> bool {
+    is_timers(address) != rng.one_in(5)
 }
 
 fn some_allowance(rng: &mut Rng) -> u16 {
@@ -326,58 +346,67 @@ fn held_value(image: &[u8], chip: Chip, address: u16) -> Option<u8> {
 
 /// As many as are worth trying for a change: at its ends, in it, and none too few or too many.
 fn allowances_for(image: &[u8], chip: Chip, change: &Change, rng: &mut Rng) -> [u16; 8] {
-    let length = change_steps(image, chip, change).map_or(0, |steps| steps.len());
+    let length = change_steps(image, chip, change.timer(), change).map_or(0, |steps| steps.len());
     let before_the_end = length.saturating_sub(1 + rng.below(8)) as u16;
     let inside = rng.below(length + 1) as u16;
     [0, 1, 2, 3, inside, before_the_end, length as u16, u16::MAX]
 }
 
-/// The first address gets every allowance; each gets one for the value that a blank read gives, which takes steps only if it
-/// isn't held, or for any.
+/// The first address gets every allowance; each gets one for the value that a blank read gives, which takes steps only
+/// if it isn't held, or for any. And each owner writes one that is most likely new.
 fn writes_for(image: &[u8], chip: Chip, addresses: &[u16], rng: &mut Rng) -> Vec<Call> {
     let mut calls = Vec::new();
     let main = addresses[0];
     let other = held_value(image, chip, main).unwrap_or(rng.byte()).wrapping_add(1 + rng.below(255) as u8);
     for allowance in allowances_for(image, chip, &Change::Single((main, other)), rng) {
-        calls.push(Call::Write { address: main, value: other, allowance });
+        calls.push(Call::Write { timer: is_timers(main), address: main, value: other, allowance });
     }
     for &address in addresses {
         let value = if rng.one_in(2) { held_value(image, chip, address).unwrap_or(0) } else { some_value(rng) };
-        calls.push(Call::Write { address, value, allowance: some_allowance(rng) });
+        calls.push(Call::Write { timer: some_owner(address, rng), address, value, allowance: some_allowance(rng) });
+    }
+    for timer in [false, true] {
+        let address = addresses_of(timer, 1, rng)[0];
+        calls.push(Call::Write { timer, address, value: some_value(rng), allowance: some_allowance(rng) });
     }
     calls
 }
 
-/// What a group write depends on: the settings of an image that is accepted, and how many free slots it has.
+/// What an owner's group write depends on: its settings and the other's, in an image that is accepted, and how many
+/// free slots there are.
 struct Room {
-    held: Vec<Setting>,
+    timer: bool,
+    own: Vec<Setting>,
+    others: Vec<Setting>,
     free: usize,
 }
 
 impl Room {
-    fn of(image: &[u8], chip: Chip) -> Room {
+    fn of(image: &[u8], chip: Chip, timer: bool) -> Room {
         if test_store(image, chip).is_err() {
-            return Room { held: Vec::new(), free: 0 };
+            return Room { timer, own: Vec::new(), others: Vec::new(), free: 0 };
         }
         let active = page_at(image, chip, active_page(image, chip).page);
-        Room { held: held(image, chip).into_iter().collect(), free: free_slots(active).len() }
+        let (own, others) = held(image, chip).into_iter().partition(|&(address, _)| owns(timer, address));
+        Room { timer, own, others, free: free_slots(active).len() }
     }
 
-    /// This many of the held settings, or all if there are fewer.
+    /// This many of the owner's settings, or all if there are fewer.
     fn some_held(&self, count: usize, rng: &mut Rng) -> Vec<Setting> {
-        let mut held = self.held.clone();
+        let mut held = self.own.clone();
         rng.shuffle(&mut held);
         held.truncate(count);
         held
     }
 
-    /// Settings of which this many have addresses that aren't held. The others have other values than they have now.
+    /// The owner's settings of which this many have addresses that aren't held. The others have other values than they
+    /// have now.
     fn some_settings(&self, new: usize, count: usize, rng: &mut Rng) -> Vec<Setting> {
         let mut settings = self.some_held(count - new, rng);
         settings.iter_mut().for_each(|(_, value)| *value = value.wrapping_add(1 + rng.below(255) as u8));
         while settings.len() < count {
-            let address = rng.below(65_535) as u16;
-            if !self.held.iter().chain(&settings).any(|&(named, _)| named == address) {
+            let address = addresses_of(self.timer, 1, rng)[0];
+            if !self.own.iter().chain(&settings).any(|&(named, _)| named == address) {
                 settings.push((address, some_value(rng)));
             }
         }
@@ -388,7 +417,8 @@ impl Room {
     /// Held addresses, new ones or both: as many new ones as there is just room for, or just not, if that is few.
     fn some_group(&self, rng: &mut Rng) -> Vec<Setting> {
         let count = some_group_size(self.free, rng);
-        let room = MOST_HELD - self.held.len();
+        let of_owner = MOST_HELD_BY_OWNER.saturating_sub(self.own.len());
+        let room = of_owner.min(MOST_HELD - self.own.len() - self.others.len());
         let new = match rng.below(4) {
             0 => 0,
             1 => count,
@@ -398,12 +428,42 @@ impl Room {
         self.some_settings(new, count.max(new), rng)
     }
 
-    /// Bytes that are no group, or name an address that is none.
+    /// A setting of the other owner: as it is, or with another value, or new, or at the border.
+    fn some_of_other(&self, rng: &mut Rng) -> Setting {
+        let border = if self.timer { FIRST_OF_TIMER - 1 } else { FIRST_OF_TIMER };
+        let any = addresses_of(!self.timer, 1, rng)[0];
+        let address = rng.pick(&[border, any]);
+        if self.others.is_empty() || rng.one_in(4) {
+            return (address, some_value(rng));
+        }
+        let (address, value) = rng.pick(&self.others);
+        (address, if rng.one_in(3) { some_value(rng) } else { value })
+    }
+
+    /// A group of which one address is the other owner's, or all are; as often as not the others have their held
+    /// values.
+    fn foreign_group(&self, rng: &mut Rng) -> Vec<u8> {
+        let count = some_group_size(self.free, rng).clamp(1, MOST_IN_A_GROUP - 1);
+        let mut settings = if rng.one_in(2) { self.some_held(count, rng) } else { self.some_group(rng) };
+        settings.truncate(MOST_IN_A_GROUP - 1);
+        if rng.one_in(6) {
+            settings.clear();
+        }
+        let between = rng.below(settings.len() + 1);
+        let place = rng.pick(&[0, settings.len(), between]);
+        settings.insert(place, self.some_of_other(rng));
+        group_bytes(&settings)
+    }
+
+    /// Bytes that are no group, or name an address that is none; now and then one is the other owner's.
     fn wrong_groups(&self, rng: &mut Rng) -> [Vec<u8>; 3] {
         let length = rng.pick(&[0, 1, 2, 4, 23, 25, 27, 30, 765]);
         let wrong_length = (0..length).map(|_| rng.byte()).collect();
         let count = some_group_size(self.free, rng).max(2);
         let mut settings = self.some_settings(rng.below(3), count, rng);
+        if rng.one_in(3) {
+            settings[rng.below(count)] = self.some_of_other(rng);
+        }
         let (place, other) = (rng.below(count), rng.below(count));
         settings[place].0 = NO_ADDRESS;
         let wrong_address = group_bytes(&settings);
@@ -415,22 +475,28 @@ impl Room {
     }
 }
 
-/// One group gets every allowance. The others are held already, or but for one setting, or are wrong.
+/// One group, of either owner, gets every allowance. The others are held already, or but for one setting, or are wrong.
 fn groups_for(image: &[u8], chip: Chip, rng: &mut Rng) -> Vec<Call> {
-    let room = Room::of(image, chip);
+    let rooms = [false, true].map(|timer| Room::of(image, chip, timer));
+    let room = &rooms[rng.below(2)];
+    let timer = room.timer;
     let main = room.some_group(rng);
     let group = group_bytes(&main);
     let allowances = allowances_for(image, chip, &Change::Group(main), rng);
-    let mut calls = allowances.map(|allowance| Call::WriteGroup { group: group.clone(), allowance }).to_vec();
+    let mut calls = allowances.map(|allowance| Call::WriteGroup { timer, group: group.clone(), allowance }).to_vec();
+    let room = &rooms[rng.below(2)];
+    let timer = room.timer;
     let count = some_group_size(room.free, rng);
     let all_held = room.some_held(count, rng);
     let mut all_but_one = all_held.clone();
     if let Some((_, value)) = all_but_one.last_mut() {
         *value = value.wrapping_add(1);
     }
-    let others = [group_bytes(&all_held), group_bytes(&all_but_one), group_bytes(&room.some_group(rng))];
-    for group in others.into_iter().chain(room.wrong_groups(rng)) {
-        calls.push(Call::WriteGroup { group, allowance: some_allowance(rng) });
+    let mut others = vec![group_bytes(&all_held), group_bytes(&all_but_one), group_bytes(&room.some_group(rng))];
+    others.extend(room.wrong_groups(rng));
+    others.extend([room.foreign_group(rng), room.foreign_group(rng)]);
+    for group in others {
+        calls.push(Call::WriteGroup { timer, group, allowance: some_allowance(rng) });
     }
     calls
 }
@@ -443,7 +509,10 @@ fn calls_for(image: &[u8], chip: Chip, rng: &mut Rng) -> Vec<Call> {
         calls.push(Call::Recover { allowance });
     }
     for &address in &addresses {
-        calls.extend([Call::Read { address }, Call::BlankRead { address }]);
+        let timer = is_timers(address);
+        calls.extend([Call::Read { timer, address }, Call::BlankRead { timer, address }]);
+        let timer = !timer;
+        calls.push(if rng.one_in(2) { Call::Read { timer, address } } else { Call::BlankRead { timer, address } });
     }
     calls.extend(writes_for(image, chip, &addresses, rng));
     calls.extend(groups_for(image, chip, rng));
@@ -454,14 +523,15 @@ fn calls_for(image: &[u8], chip: Chip, rng: &mut Rng) -> Vec<Call> {
 fn some_call(which: usize, image: &[u8], chip: Chip, rng: &mut Rng) -> Call {
     let addresses = addresses_for(image, chip, rng);
     let address = rng.pick(&addresses);
+    let timer = some_owner(address, rng);
     let allowance = some_allowance(rng);
     match which {
         0 => Call::Format { second_edition: rng.one_in(2) },
         1 => Call::Recover { allowance },
-        2 => Call::Write { address, value: some_value(rng), allowance },
-        3 => Call::WriteGroup { group: group_bytes(&Room::of(image, chip).some_group(rng)), allowance },
-        4 => Call::Read { address },
-        5 => Call::BlankRead { address },
+        2 => Call::Write { timer, address, value: some_value(rng), allowance },
+        3 => Call::WriteGroup { timer, group: group_bytes(&Room::of(image, chip, timer).some_group(rng)), allowance },
+        4 => Call::Read { timer, address },
+        5 => Call::BlankRead { timer, address },
         _ => Call::Lookup,
     }
 }
@@ -487,16 +557,17 @@ fn compare_image(seed: u64, stores: [&dyn Store; 2], tally: &mut Tally) -> Resul
         }
     }
     for address in addresses {
-        let call = Call::Write { address, value: some_value(&mut rng), allowance: u16::MAX };
+        let timer = some_owner(address, &mut rng);
+        let call = Call::Write { timer, address, value: some_value(&mut rng), allowance: u16::MAX };
         (_, latest) = compare_call(&latest, size, &call, stores, tally)?;
-        compare_call(&latest, size, &Call::Read { address }, stores, tally)?;
+        compare_call(&latest, size, &Call::Read { timer, address }, stores, tally)?;
     }
-    for _ in 0..3 {
-        let group = Room::of(&latest, chip).some_group(&mut rng);
+    for timer in [false, true, rng.one_in(2)] {
+        let group = Room::of(&latest, chip, timer).some_group(&mut rng);
         let (address, _) = group[0];
-        let call = Call::WriteGroup { group: group_bytes(&group), allowance: u16::MAX };
+        let call = Call::WriteGroup { timer, group: group_bytes(&group), allowance: u16::MAX };
         (_, latest) = compare_call(&latest, size, &call, stores, tally)?;
-        compare_call(&latest, size, &Call::Read { address }, stores, tally)?;
+        compare_call(&latest, size, &Call::Read { timer, address }, stores, tally)?;
     }
     compare_call(&latest, size, &Call::Lookup, stores, tally)?;
     compare_other_sizes(&image, chip, &calls, &mut rng, stores, tally)?;
@@ -601,7 +672,8 @@ fn the_listing_agrees_with_reads() {
         assert_eq!(lines.clone().count().to_string(), from_held.split(' ').next().unwrap(), "seed {seed}");
         for line in lines {
             let (address, value) = line.split_once(' ').unwrap();
-            let reading = read(&image, SMALLER.page_size(), address.parse().unwrap());
+            let address = address.parse().unwrap();
+            let reading = read(&image, SMALLER.page_size(), is_timers(address), address);
             assert_eq!((reading.number, reading.value.to_string()), (OK, value.to_string()), "seed {seed}");
         }
     }
@@ -717,6 +789,21 @@ fn wrong_chips_are_caught() {
     compare_seeds(&seeds[..500], |_| stores, &mut Tally::default()).expect("nothing is wrong here");
 }
 
+/// The same of a store that is wrong in the two owners.
+#[test]
+fn wrong_owners_are_caught() {
+    let seeds: Vec<u64> = (0..2_000).collect();
+    for wrong in WRONG_OWNERS {
+        let stores = [&Second as &dyn Store, leak(Stepwise(wrong))];
+        let Err(text) = compare_seeds(&seeds, |_| stores, &mut Tally::default()) else {
+            panic!("{wrong:?} was not caught");
+        };
+        println!("{wrong:?}: {text}");
+    }
+    let stores = [&Second as &dyn Store, leak(Stepwise(WrongOwner::Nothing))];
+    compare_seeds(&seeds[..500], |_| stores, &mut Tally::default()).expect("nothing is wrong here");
+}
+
 #[test]
 fn wrong_pairings_are_caught() {
     let seeds: Vec<u64> = (0..1_000).collect();
@@ -750,17 +837,17 @@ impl Store for Overreaching {
     fn recover(&self, _: &mut [u8], _: u16, _: u16) -> Stepped {
         Stepped::refused(SIZE)
     }
-    fn write(&self, _: &mut [u8], _: u16, _: u16, _: u8, _: u16) -> Stepped {
+    fn write(&self, _: &mut [u8], _: u16, _: bool, _: u16, _: u8, _: u16) -> Stepped {
         Stepped::refused(SIZE)
     }
-    fn write_group(&self, _: &mut [u8], _: u16, group: &[u8], _: u16) -> Stepped {
+    fn write_group(&self, _: &mut [u8], _: u16, _: bool, group: &[u8], _: u16) -> Stepped {
         Stepped::refused(self.byte_beside(group))
     }
-    fn read(&self, image: &[u8], _: u16, _: u16) -> Reading {
+    fn read(&self, image: &[u8], _: u16, _: bool, _: u16) -> Reading {
         Reading { number: OK, value: self.byte_beside(image) }
     }
-    fn blank_read(&self, image: &[u8], size: u16, address: u16) -> Reading {
-        self.read(image, size, address)
+    fn blank_read(&self, image: &[u8], size: u16, timer: bool, address: u16) -> Reading {
+        self.read(image, size, timer, address)
     }
     fn lookup(&self, _: &[u8], _: u16) -> Pairing {
         Pairing::refused(SIZE)
@@ -773,9 +860,9 @@ fn overreach(side: &str) {
     let place = if after { Place::BeforeEndGuard } else { Place::AfterStartGuard };
     let store = Guarded::new(Overreaching { after }, place);
     if side.ends_with("the image") {
-        store.read(&[255; 2_048], 1_024, 0);
+        store.read(&[255; 2_048], 1_024, false, 0);
     } else {
-        store.write_group(&mut [255; 2_048], 1_024, &[5, 0, 65], 0);
+        store.write_group(&mut [255; 2_048], 1_024, false, &[5, 0, 65], 0);
     }
 }
 

@@ -1,13 +1,13 @@
-//! The twelve examples of docs/FORMAT.md, and what it says of broken words (X2, X9), of pairing codes (X10) and of groups
-//! (X11 to X13), on every store at hand; in each edition that has the example, the larger chip's too, of which the last
-//! examples are worked by hand.
+//! The twelve examples of docs/FORMAT.md, and what it says of broken words (X2, X9), of pairing codes (X10) and of
+//! groups (X11 to X13), on every store at hand; in each edition that has the example, the larger chip's too, of which
+//! one page is worked by hand; and the handset and the glaze timer in one store.
 //!
-//! Broken stores that these catch: one with an exclusive-or check (examples 1 to 4), some that are wrong in groups (X11 to
-//! X13), and some that are wrong in the larger chip, see the last test.
+//! Broken stores that these catch: one with an exclusive-or check (examples 1 to 4), some that are wrong in groups (X11
+//! to X13), some that are wrong in the larger chip, and some that are wrong in the two owners, see the last test.
 
 use std::panic::{catch_unwind, AssertUnwindSafe};
 
-use outside::broken::{Broken, WrongChip, WrongGroup};
+use outside::broken::{Broken, WrongChip, WrongGroup, WrongOwner};
 use outside::guard::{Guarded, Place};
 use outside::page::*;
 use outside::rules::*;
@@ -25,7 +25,8 @@ const OPENS_4: Word = [0xFF, 0xFF, 0x04, 0x07];
 const CLOSES_4: Word = [0xFF, 0xFF, 0x84, 0x06];
 const ABANDONS: Word = [0xFF, 0xFF, 0x00, 0x08];
 
-/// A store that formats in one edition, and whose calls all name the page size of its chip.
+/// A store that formats in one edition, and whose calls all name the page size of its chip. Each address is written and
+/// read by its owner, and a group by the owner of its first address.
 #[derive(Clone, Copy)]
 struct InEdition<'a> {
     store: &'a dyn Store,
@@ -46,16 +47,16 @@ impl InEdition<'_> {
         self.store.recover(image, self.size(), allowance)
     }
     fn write(self, image: &mut [u8], address: u16, value: u8, allowance: u16) -> Stepped {
-        self.store.write(image, self.size(), address, value, allowance)
+        self.store.write(image, self.size(), is_timers(address), address, value, allowance)
     }
     fn write_group(self, image: &mut [u8], group: &[u8], allowance: u16) -> Stepped {
-        self.store.write_group(image, self.size(), group, allowance)
+        self.store.write_group(image, self.size(), Change::group(group).timer(), group, allowance)
     }
     fn read(self, image: &[u8], address: u16) -> Reading {
-        self.store.read(image, self.size(), address)
+        self.store.read(image, self.size(), is_timers(address), address)
     }
     fn blank_read(self, image: &[u8], address: u16) -> Reading {
-        self.store.blank_read(image, self.size(), address)
+        self.store.blank_read(image, self.size(), is_timers(address), address)
     }
     fn lookup(self, image: &[u8]) -> Pairing {
         self.store.lookup(image, self.size())
@@ -277,13 +278,23 @@ fn example_9_damaged_and_unclean() {
 fn example_10_192_addresses() {
     on_every_store(&EDITIONS, |store| {
         let mut image = store.formatted(2);
-        (0..192).for_each(|address| store.write_all(&mut image, address, 7));
+        of_both(192).for_each(|address| store.write_all(&mut image, address, 7));
         let full = image.clone();
-        assert_eq!(store.write(&mut image, 192, 7, u16::MAX), Stepped::refused(NO_ROOM));
-        assert_eq!(image, full);
-        store.write_all(&mut image, 191, 8);
-        assert_eq!(store.read(&image, 191), held_value(8));
+        for new in [96, 32_864] {
+            assert_eq!(store.write(&mut image, new, 7, u16::MAX), Stepped::refused(NO_ROOM));
+            assert_eq!(image, full);
+        }
+        for held in [95, 32_863] {
+            store.write_all(&mut image, held, 8);
+            assert_eq!(store.read(&image, held), held_value(8));
+        }
     });
+}
+
+/// So many addresses, of the handset and of the timer in turn: 0, 32,768, 1, 32,769 and so on. Neither may hold all of
+/// 192.
+fn of_both(count: u16) -> impl Iterator<Item = u16> {
+    (0..count).map(|index| index / 2 + 32_768 * (index % 2))
 }
 
 /// Addresses 5 and 7 are held, and the slots of page 0 are filled.
@@ -498,9 +509,9 @@ fn answers_to_groups(store: InEdition) {
         assert_eq!(answer, Stepped { number: OK, finished: true, steps });
     }
     let mut image = formatted.clone();
-    (0..191).for_each(|address| store.write_all(&mut image, address, 7));
-    assert_eq!(number(&image, &[(191, 1), (192, 1)]), NO_ROOM);
-    assert_eq!(number(&image, &[(191, 1), (190, 1)]), OK);
+    of_both(191).for_each(|address| store.write_all(&mut image, address, 7));
+    assert_eq!(number(&image, &[(96, 1), (97, 1)]), NO_ROOM);
+    assert_eq!(number(&image, &[(96, 1), (95, 1)]), OK);
     let mut image = formatted;
     store.put(&mut image, 1, WEAR_OFFSET, [0x01, 0x00, 0x01, 0x16]);
     assert_eq!(number(&image, &[(5, 1)]), UNCLEAN);
@@ -590,8 +601,8 @@ fn step_counts() {
         for pages in [2, 3, 32] {
             let mut image = store.formatted(pages);
             assert_eq!(format_steps(&image, chip, store.edition).unwrap().len(), 3 * pages + 2);
-            (0..192).for_each(|address| store.write_all(&mut image, address, 7));
-            let pool: Vec<u16> = (0..192).collect();
+            let pool: Vec<u16> = of_both(192).collect();
+            pool.iter().for_each(|&address| store.write_all(&mut image, address, 7));
             let mut rng = outside::rng::Rng::new(1);
             while cleared_pages(&image, chip).len() > 1 {
                 outside::images::fill_active(&mut image, chip, chip.slots(), &pool, &mut rng);
@@ -633,15 +644,109 @@ fn a_larger_page(store: InEdition) {
     let opened = [0x01, 0x00, 0x03, 0x15, 0x05, 0x00, 0x00, 0x16, 0xFF, 0xFF, 0xFF, 0xFF, 0x05, 0x00, 0x42, 0x14];
     assert_eq!(image[2_048..2_064], opened);
     // At 1,024 there is no store: page 0 has the third byte 3, and page 1 begins with a record.
-    assert_eq!(store.store.read(&image, 1_024, 5), Reading::refused(NO_STORE));
+    assert_eq!(store.store.read(&image, 1_024, false, 5), Reading::refused(NO_STORE));
     assert!([0, 1, 512, 1_023, 2_047, 4_096]
         .iter()
-        .all(|&size| { store.store.read(&image, size, 5) == Reading::refused(SIZE) }));
+        .all(|&size| { store.store.read(&image, size, false, 5) == Reading::refused(SIZE) }));
 }
 
 #[test]
 fn a_larger_page_by_hand() {
     on_every_store(&[Edition::Third], a_larger_page);
+}
+
+// The handset has the addresses 0 to 32,767, the glaze timer 32,768 to 65,534.
+
+const HANDSET: bool = false;
+const TIMER: bool = true;
+
+fn two_owners(store: InEdition) {
+    let size = store.size();
+    let mut image = store.formatted(2);
+    let rows = [
+        (HANDSET, 32_767, 65, Stepped { number: OK, finished: true, steps: 2 }),
+        (HANDSET, 32_768, 66, Stepped::refused(OWNER)),
+        (TIMER, 32_768, 66, Stepped { number: OK, finished: true, steps: 2 }),
+        (TIMER, 32_767, 67, Stepped::refused(OWNER)),
+        // Not even the value that is there already.
+        (TIMER, 32_767, 65, Stepped::refused(OWNER)),
+        (HANDSET, 32_768, 66, Stepped::refused(OWNER)),
+        (HANDSET, 32_767, 65, Stepped { number: OK, finished: true, steps: 0 }),
+        (TIMER, 65_534, 68, Stepped { number: OK, finished: true, steps: 2 }),
+        (HANDSET, 65_534, 68, Stepped::refused(OWNER)),
+        // 65,535 is nobody's.
+        (TIMER, 65_535, 69, Stepped::refused(ADDRESS)),
+        (HANDSET, 65_535, 69, Stepped::refused(ADDRESS)),
+    ];
+    for (timer, address, value, answer) in rows {
+        let before = image.clone();
+        let row = format!("{value} at {address}, by the timer: {timer}");
+        assert_eq!(store.store.write(&mut image, size, timer, address, value, u16::MAX), answer, "{row}");
+        assert!(answer.steps > 0 || image == before, "{row}");
+    }
+    let rows = [
+        (HANDSET, 32_767, held_value(65), held_value(65)),
+        (TIMER, 32_767, Reading::refused(OWNER), Reading::refused(OWNER)),
+        (TIMER, 32_768, held_value(66), held_value(66)),
+        (HANDSET, 32_768, Reading::refused(OWNER), Reading::refused(OWNER)),
+        (HANDSET, 0, NOT_HELD_ANSWER, held_value(0)),
+        (TIMER, 0, Reading::refused(OWNER), Reading::refused(OWNER)),
+        (TIMER, 65_534, held_value(68), held_value(68)),
+        (TIMER, 65_535, Reading::refused(ADDRESS), Reading::refused(ADDRESS)),
+        (HANDSET, 65_535, Reading::refused(ADDRESS), Reading::refused(ADDRESS)),
+    ];
+    for (timer, address, read, blank_read) in rows {
+        assert_eq!(store.store.read(&image, size, timer, address), read, "{address}, by the timer: {timer}");
+        assert_eq!(
+            store.store.blank_read(&image, size, timer, address),
+            blank_read,
+            "{address}, by the timer: {timer}"
+        );
+    }
+}
+
+/// The 129th address of an owner is refused, and one that it holds may change; the other can fill what is left of 192.
+fn an_owner_at_its_limit(store: InEdition) {
+    for (first, first_of_other) in [(0, 32_768), (32_768, 0)] {
+        let mut image = store.formatted(2);
+        (first..first + 128).for_each(|address| store.write_all(&mut image, address, 7));
+        assert_eq!(store.write(&mut image, first + 128, 7, u16::MAX), Stepped::refused(NO_ROOM));
+        store.write_all(&mut image, first + 127, 8);
+        (first_of_other..first_of_other + 64).for_each(|address| store.write_all(&mut image, address, 9));
+        assert_eq!(store.write(&mut image, first_of_other + 64, 9, u16::MAX), Stepped::refused(NO_ROOM));
+        store.write_all(&mut image, first_of_other + 63, 10);
+        assert_eq!(store.read(&image, first + 127), held_value(8));
+        assert_eq!(store.read(&image, first_of_other + 63), held_value(10));
+    }
+}
+
+/// One address of the other is enough, in whatever place; and the limit counts what is new.
+fn groups_of_an_owner(store: InEdition) {
+    let number = |image: &[u8], timer, group: &[Setting]| {
+        let mut image = image.to_vec();
+        store.store.write_group(&mut image, store.size(), timer, &group_bytes(group), u16::MAX).number
+    };
+    let mut image = store.formatted(2);
+    assert_eq!(number(&image, HANDSET, &[(5, 1), (32_767, 2)]), OK);
+    assert_eq!(number(&image, TIMER, &[(32_768, 1), (65_534, 2)]), OK);
+    assert_eq!(number(&image, TIMER, &[(5, 1), (32_767, 2)]), OWNER);
+    assert_eq!(number(&image, HANDSET, &[(32_768, 1), (5, 2), (6, 3)]), OWNER);
+    assert_eq!(number(&image, HANDSET, &[(5, 1), (32_768, 2), (6, 3)]), OWNER);
+    assert_eq!(number(&image, HANDSET, &[(5, 1), (6, 2), (32_768, 3)]), OWNER);
+    assert_eq!(number(&image, HANDSET, &[(32_768, 1), (65_535, 2)]), ADDRESS);
+    assert_eq!(number(&image, HANDSET, &[(32_768, 1), (32_768, 2)]), GROUP);
+    (0..126).for_each(|address| store.write_all(&mut image, address, 7));
+    assert_eq!(number(&image, HANDSET, &[(126, 1), (127, 1)]), OK);
+    assert_eq!(number(&image, HANDSET, &[(126, 1), (127, 1), (128, 1)]), NO_ROOM);
+    assert_eq!(number(&image, HANDSET, &[(126, 1), (127, 1), (125, 1), (124, 1)]), OK);
+    assert_eq!(number(&image, TIMER, &[(40_000, 1), (40_001, 1), (40_002, 1)]), OK);
+}
+
+#[test]
+fn two_owners_of_one_store() {
+    on_every_store(&EDITIONS, two_owners);
+    on_every_store(&EDITIONS, an_owner_at_its_limit);
+    on_every_store(&WITH_GROUPS, groups_of_an_owner);
 }
 
 #[test]
@@ -668,5 +773,35 @@ fn broken_stores_are_caught() {
         WrongChip::Takes4096AsLarger,
     ] {
         assert!(is_caught(&Stepwise(wrong), Edition::Third, a_larger_page), "{wrong:?}");
+    }
+    let of_owners = [two_owners, an_owner_at_its_limit, groups_of_an_owner];
+    let catches = |wrong, edition| of_owners.iter().any(|&example| is_caught(&Stepwise(wrong), edition, example));
+    assert!(WITH_GROUPS.into_iter().all(|edition| !catches(WrongOwner::Nothing, edition)));
+    for wrong in [
+        WrongOwner::HandsetHas32768,
+        WrongOwner::TimerHas32767,
+        WrongOwner::BorderOneOn,
+        WrongOwner::Swapped,
+        WrongOwner::OwnerBeforeAddress,
+        WrongOwner::OwnerBeforeGroup,
+        WrongOwner::HeldBeforeOwner,
+        WrongOwner::FirstAddressTested,
+        WrongOwner::LastAddressTested,
+        WrongOwner::OneOwnSuffices,
+        WrongOwner::WritesIgnoreOwner,
+        WrongOwner::LimitAt127,
+        WrongOwner::LimitAt129,
+        WrongOwner::TotalAlone,
+        WrongOwner::LimitAlone,
+        WrongOwner::CountsBoth,
+        WrongOwner::CountsOther,
+        WrongOwner::HeldCountAsNew,
+        WrongOwner::NewCountAsOne,
+        WrongOwner::ReadsIgnoreOwner,
+        WrongOwner::BlankReadsIgnoreOwner,
+        WrongOwner::BlankOfOtherIs0,
+        WrongOwner::NotHeldBeforeOwner,
+    ] {
+        assert!(WITH_GROUPS.into_iter().all(|edition| catches(wrong, edition)), "{wrong:?}");
     }
 }

@@ -1,11 +1,12 @@
 //! The image makers make what the comparison is meant to meet, on either chip.
 //!
-//! Broken makers that this catches: one whose stores all have few addresses, so that DAMAGED by 193 is never met, and one
-//! that draws every value alike, so that hardly a setting is 0 or 255.
+//! Broken makers that this catches: one whose stores all have few addresses, so that DAMAGED by 193 is never met, one
+//! that draws every value alike, so that hardly a setting is 0 or 255, and one that draws every address alike, so that
+//! no owner holds more than 128.
 
 use std::collections::BTreeMap;
 
-use outside::cases::{note, note_editions, note_groups, note_other_size, note_slots, rare, Counts};
+use outside::cases::{note, note_editions, note_groups, note_other_size, note_owners, note_slots, rare, Counts};
 use outside::images::{chip_of, image, image_of};
 use outside::page::*;
 use outside::rules::*;
@@ -109,6 +110,7 @@ fn look_at_store(image: &[u8], chip: Chip, counts: &mut Counts) {
     look_at_code(image, chip, counts);
     note_groups(image, chip, counts);
     note_slots(image, chip, counts);
+    note_owners(image, chip, counts);
     let cleared = cleared_pages(image, chip);
     let full = free_slots(page_at(image, chip, active_page(image, chip).page)).is_empty();
     let clean = unclean_pages(image, chip).is_empty();

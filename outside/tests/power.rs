@@ -1,20 +1,22 @@
 //! The power-cut run: histories of writes and group writes in which power fails at every step of every examined one, in
 //! several ways, and then in the recoveries after it. Demand 3 is tested through the store's own reads, blank reads and
-//! lookups. Each history is of one chip, whose page size all its calls name.
+//! lookups. Each history is of one chip, whose page size all its calls name, and most are of both owners: each write is
+//! by the owner of its addresses.
 //!
 //! The steps come from a plan, the second implementation's; that the store under test does the same steps is tested by
 //! its image after each allowance. A broken store that this catches: a move that erases the old pages before the done
-//! word (clause 1). `broken_stores_are_caught` and `wrong_groups_are_caught` have one for each clause of demand 3, and
-//! `wrong_chips_are_caught` some that are wrong in the larger chip alone; there the plan is the broken store's own, so that
-//! only the clauses can catch it. ISTROVELL_SEED runs one history alone.
+//! word (clause 1). `broken_stores_are_caught` and `wrong_groups_are_caught` have one for each clause of demand 3,
+//! `wrong_chips_are_caught` some that are wrong in the larger chip alone, and `wrong_owners_are_caught` some that are
+//! wrong in the two owners; there the plan is the broken store's own, so that only the clauses can catch it.
+//! ISTROVELL_SEED runs one history alone.
 
 use std::collections::BTreeMap;
 use std::time::Instant;
 
-use outside::broken::{Broken, Eager, WrongChip, WrongGroup, WrongPairing, WRONG_PAIRINGS, WRONG_WEARS};
+use outside::broken::{Broken, Eager, WrongChip, WrongGroup, WrongOwner, WrongPairing, WRONG_PAIRINGS, WRONG_WEARS};
 use outside::failing::*;
 use outside::guard::{note_seed, Guarded, Place};
-use outside::images::{fill_active, some_addresses, some_change, some_value};
+use outside::images::{addresses_of, fill_active, some_addresses, some_change, some_value};
 use outside::page::*;
 use outside::rng::{asked_for, Rng};
 use outside::rules::*;
@@ -42,6 +44,8 @@ enum Clause {
     Finished,
     /// Blank reads and the pairing lookup say what the reads say.
     Blank,
+    /// The other owner's read and blank read of a written address answer OWNER.
+    Owner,
     /// The image and the answer after each allowance are those of the plan.
     Steps,
 }
@@ -56,6 +60,8 @@ struct History {
     edition: Edition,
     /// How many addresses are held from the start.
     held: usize,
+    /// How many of the addresses are the timer's, if that is not left to chance.
+    timers: Option<usize>,
     /// How many writes are examined.
     examined: usize,
     /// Whether pages are filled at one go between the examined writes, or by a few single writes.
@@ -112,6 +118,11 @@ struct Report {
     /// Examined writes and group writes, by page size, by what they do and by pages.
     writes: BTreeMap<(u16, Way, usize), u64>,
     group_writes: BTreeMap<(u16, Way, usize), u64>,
+    /// Examined writes and group writes, by owner, by whether it is a group and by what they do, where both owners hold
+    /// something.
+    by_owner: BTreeMap<(bool, bool, Way), u64>,
+    /// Failures in writes of the handset and of the timer, where both owners hold something.
+    failed_by_owner: [u64; 2],
     /// Group writes that stand on both sides of the middle of a larger page.
     over_the_middle: u64,
     left_old: u64,
@@ -169,6 +180,8 @@ impl Report {
         println!("  examined group writes: {:?}", self.group_writes);
         println!("  failed writes, groups among them: {}", self.failed_writes());
         println!("  of these on the larger chip: {}", self.failed_on_larger);
+        let [handset, timer] = self.failed_by_owner;
+        println!("  of these where both owners hold settings: {handset} of the handset's, {timer} of the timer's");
         println!("  group writes over the middle of a larger page: {}", self.over_the_middle);
         for ((step, failing), count) in &self.failures {
             println!("    {step:7} {failing:?}: {count}");
@@ -370,7 +383,8 @@ impl Run<'_> {
     }
 
     fn steps(&self, image: &[u8], change: &Change) -> Vec<Step> {
-        self.plan.change_steps(image, self.chip, change).expect("the plan accepts the writes of a history")
+        let steps = self.plan.change_steps(image, self.chip, change.timer(), change);
+        steps.expect("the plan accepts the writes of a history")
     }
 
     /// Now and then it has the values already held, and takes no step.
@@ -463,7 +477,7 @@ impl Run<'_> {
         for failing in self.ways_to_fail(step) {
             let mut image = before.to_vec();
             fail(&mut image, step, failing, &mut self.rng);
-            self.count_failure(step, failing, written.grouped);
+            self.count_failure(step, failing, written);
             let outcome =
                 self.examine_failure(&mut image, written).and_then(|new| later(new, new_before).map(|()| new));
             match outcome {
@@ -490,13 +504,23 @@ impl Run<'_> {
             Change::Group(_) => &mut self.report.group_writes,
         };
         *counts.entry(kind).or_default() += 1;
+        if self.both_hold() {
+            let kind = (change.timer(), matches!(change, Change::Group(_)), way(self.chip, steps));
+            *self.report.by_owner.entry(kind).or_default() += 1;
+        }
         self.report.over_the_middle += u64::from(is_over_the_middle(self.chip, steps));
     }
 
-    fn count_failure(&mut self, step: Step, failing: Failing, grouped: bool) {
+    fn both_hold(&self) -> bool {
+        [false, true].iter().all(|&timer| held_by(&self.model, timer) > 0)
+    }
+
+    fn count_failure(&mut self, step: Step, failing: Failing, written: &Written) {
         let name = if matches!(step, Step::Erase { .. }) { "erase" } else { "program" };
         *self.report.failures.entry((name, failing)).or_default() += 1;
-        self.report.failed_groups += u64::from(grouped);
+        self.report.failed_groups += u64::from(written.grouped);
+        let timer = is_timers(written.settings[0].address);
+        self.report.failed_by_owner[usize::from(timer)] += u64::from(self.both_hold());
         self.report.failed_on_larger += u64::from(self.chip == LARGER);
     }
 
@@ -508,7 +532,7 @@ impl Run<'_> {
         for allowance in (0..=steps).chain([usize::from(u16::MAX)]) {
             let done = allowance.min(steps);
             let mut after = stages[0].clone();
-            let answer = self.store.change(&mut after, self.page_size(), change, allowance as u16);
+            let answer = self.store.change(&mut after, self.page_size(), change.timer(), change, allowance as u16);
             let expected = Stepped { number: OK, finished: done == steps, steps: done as u16 };
             let same = answer == expected && after == stages[done];
             demand(same, Clause::Steps, || {
@@ -543,17 +567,18 @@ impl Run<'_> {
         demand(still == new, Clause::Written, || format!("the last recovery turned new {new} into new {still}"))
     }
 
-    /// Reads the written addresses, as many others as the history says, and one that was never written. Says whether the
-    /// new values are there.
+    /// Reads the written addresses, as many others as the history says, and one of each owner that was never written.
+    /// Says whether the new values are there.
     fn check_answers(&mut self, image: &[u8], written: &Written, expected: Expected) -> Outcome<bool> {
         let start = self.rng.below(self.pool.len());
-        let never = (0..65_535).find(|address| !self.pool.contains(address));
+        let never = [0..32_768, 32_768..65_535].map(|mut own| own.find(|address| !self.pool.contains(address)));
+        let never = never.into_iter().flatten();
         let others =
             (0..self.pool.len().min(self.history.watched)).map(|index| self.pool[(start + index) % self.pool.len()]);
-        for address in others.chain(never).filter(|&address| !written.names(address)) {
+        let others: Vec<u16> = others.chain(never).filter(|&address| !written.names(address)).collect();
+        for address in others {
             let before = held_or_not(self.model.get(&address));
-            let answer = self.store.read(image, self.page_size(), address);
-            self.report.reads += 1;
+            let answer = self.read(image, address);
             demand(answer == before, Clause::Others, || format!("{address} answered {before:?}, now {answer:?}"))?;
         }
         let (old, new) = self.check_written(image, written)?;
@@ -566,12 +591,17 @@ impl Run<'_> {
         Ok(new)
     }
 
+    /// The read of its owner.
+    fn read(&mut self, image: &[u8], address: u16) -> Reading {
+        self.report.reads += 1;
+        self.store.read(image, self.page_size(), is_timers(address), address)
+    }
+
     /// All the written addresses answer as before, or all with their new values, or both if these are the same.
     fn check_written(&mut self, image: &[u8], written: &Written) -> Outcome<(bool, bool)> {
         let mut answers = BTreeMap::new();
         for changed in &written.settings {
-            let answer = self.store.read(image, self.page_size(), changed.address);
-            self.report.reads += 1;
+            let answer = self.read(image, changed.address);
             demand(answer == changed.old || answer == changed.new, Clause::Written, || {
                 format!("the written address {} answers {answer:?}", changed.address)
             })?;
@@ -590,9 +620,15 @@ impl Run<'_> {
     /// whole, and one that the write completes is whole exactly if the new values are there.
     fn check_blank(&mut self, image: &[u8], written: &BTreeMap<u16, Reading>) -> Outcome<()> {
         for (&address, read) in written {
-            let blank = self.store.blank_read(image, self.page_size(), address);
+            let (size, timer) = (self.page_size(), is_timers(address));
+            let blank = self.store.blank_read(image, size, timer, address);
             demand(blank == Reading { number: OK, value: read.value }, Clause::Blank, || {
                 format!("the written address {address} answers {read:?}, and blank {blank:?}")
+            })?;
+            let to_other =
+                [self.store.read(image, size, !timer, address), self.store.blank_read(image, size, !timer, address)];
+            demand(to_other == [Reading::refused(OWNER); 2], Clause::Owner, || {
+                format!("the written address {address} answers the other owner {to_other:?}")
             })?;
         }
         let reads = |address| written.get(&address).copied().unwrap_or_else(|| held_or_not(self.model.get(&address)));
@@ -641,10 +677,10 @@ impl Run<'_> {
         self.check_recovery(image, &steps, u16::MAX)?;
         let left = self.recovery_steps(image)?;
         demand(left.is_empty(), Clause::Finished, || format!("a finished recovery leaves {left:?}"))?;
-        let setting = (self.pool[0], some_value(&mut self.rng));
+        let setting = (self.rng.pick(&self.pool), some_value(&mut self.rng));
         let change =
             if self.history.edition.has_groups() { Change::Group(vec![setting]) } else { Change::Single(setting) };
-        let number = self.store.change(&mut image.to_vec(), self.page_size(), &change, 0).number;
+        let number = self.store.change(&mut image.to_vec(), self.page_size(), change.timer(), &change, 0).number;
         demand(number == OK, Clause::Finished, || format!("after a finished recovery {change:?} answers {number}"))
     }
 
@@ -668,11 +704,22 @@ fn later(new: bool, new_before: Option<usize>) -> Outcome<()> {
     })
 }
 
+/// So many addresses of the timer and so many of the handset, in any order.
+fn of_both(timers: usize, handsets: usize, rng: &mut Rng) -> Vec<u16> {
+    let mut addresses = [addresses_of(true, timers, rng), addresses_of(false, handsets, rng)].concat();
+    rng.shuffle(&mut addresses);
+    addresses
+}
+
 fn run(history: History, store: &dyn Store, plan: &dyn Plan, report: &mut Report) {
     note_seed(history.seed);
     let mut rng = Rng::new(history.seed);
     // Two addresses more than are held at first, so that some writes are the first of their address.
-    let pool = some_addresses(&mut rng, (history.held + 2).min(MOST_HELD));
+    let count = (history.held + 2).min(MOST_HELD);
+    let pool = match history.timers {
+        Some(timers) => of_both(timers, count - timers, &mut rng),
+        None => some_addresses(&mut rng, count),
+    };
     let lost_before = report.lost.clone();
     Run { store, plan, history, chip: history.chip(), rng, pool, model: BTreeMap::new(), report }.go();
     if report.lost != lost_before {
@@ -685,6 +732,7 @@ const PLAIN_RUN: History = History {
     pages: 2,
     edition: Edition::First,
     held: 6,
+    timers: None,
     examined: 0,
     fast: false,
     only_moves: false,
@@ -761,6 +809,16 @@ const LARGER_CHIP: [History; 8] = [
         ..ON_LARGER
     },
     History { seed: 48, pages: 5, held: 8, examined: 6, fast: true, worn: worn(65_534, 3), ..ON_LARGER },
+];
+
+/// Both owners have their part of the store for sure: half of it, or as much as one of them may hold and what is left.
+const TWO_OWNERS: [History; 6] = [
+    History { seed: 71, held: 12, timers: Some(7), examined: 40, ..FAST },
+    History { seed: 72, held: 14, timers: Some(8), examined: 16, fast: true, ..IN_GROUPS },
+    History { seed: 73, pages: 3, held: 14, timers: Some(8), examined: 14, fast: true, ..IN_GROUPS },
+    History { seed: 74, held: 192, timers: Some(128), ways: 5, ..MOVE },
+    History { seed: 78, held: 190, timers: Some(64), examined: 1, ways: 3, fast: true, only_moves: true, ..IN_GROUPS },
+    History { seed: 76, held: 14, timers: Some(8), examined: 10, fast: true, ..ON_LARGER },
 ];
 
 /// What it takes to catch a store that is wrong in groups.
@@ -842,17 +900,17 @@ fn complete_a_code(last: LastDigit, edition: Edition, store: &dyn Store) -> Repo
     run_alone(store, history, (16..20).collect(), |run| run.complete_a_code(last))
 }
 
-/// Beside the digits one other address is held, so that a page can be filled where no digit is.
+/// Beside the digits an address of the timer is held, so that a page can be filled where no digit is.
 fn write_a_code(code: Code, edition: Edition, store: &dyn Store) -> Report {
     let history = History { pages: code.pages, held: 1 + code.held, edition, ..PLAIN_RUN };
-    run_alone(store, history, vec![300, 16, 17, 18, 19], |run| run.write_a_code(code))
+    run_alone(store, history, vec![40_000, 16, 17, 18, 19], |run| run.write_a_code(code))
 }
 
 #[test]
 fn power_cuts_lose_nothing() {
     let mut report = Report::default();
     let guarded = [Place::AfterStartGuard, Place::BeforeEndGuard].map(|place| Guarded::new(SUBJECT, place));
-    let all = HISTORIES.into_iter().chain(WORN).chain(GROUPED).chain(LARGER_CHIP);
+    let all = HISTORIES.into_iter().chain(WORN).chain(GROUPED).chain(LARGER_CHIP).chain(TWO_OWNERS);
     let asked: Vec<History> = all.clone().filter(|history| asked_for(history.seed)).collect();
     for &history in &asked {
         let begin = Instant::now();
@@ -875,6 +933,12 @@ fn power_cuts_lose_nothing() {
         assert!([2, 3].iter().all(|&pages| report.writes.contains_key(&(2_048, Way::Appends, pages))));
         assert!(report.recoveries.contains_key("with a failing abandon mark"));
         assert!(report.went_on_dead > 0 && report.codes > 0 && report.over_the_middle > 0);
+        for (timer, grouped) in [(false, false), (false, true), (true, false), (true, true)] {
+            for way in [Way::Appends, Way::OpensAPage, Way::Moves] {
+                assert!(report.by_owner.contains_key(&(timer, grouped, way)), "{timer} {grouped} {way:?}");
+            }
+        }
+        assert!(report.failed_by_owner.iter().all(|&failed| failed >= 10_000), "{:?}", report.failed_by_owner);
     }
 }
 
@@ -1009,4 +1073,33 @@ fn wrong_chips_are_caught() {
     let mut report = Report::default();
     run(history, &Stepwise(WrongChip::Nothing), &WrongChip::Nothing, &mut report);
     assert_eq!(report.first_lost, None);
+}
+
+/// With their own plan: a move that leaves the other's settings behind loses them, and reads of the other's addresses
+/// answer.
+#[test]
+fn wrong_owners_are_caught() {
+    const LOST: &[Clause] = &[Clause::Others, Clause::Written, Clause::Finished];
+    let caught: [(WrongOwner, &[Clause]); 5] = [
+        (WrongOwner::MovesOwnAlone, LOST),
+        (WrongOwner::TwinsAnswer, LOST),
+        (WrongOwner::ReadsIgnoreOwner, &[Clause::Owner]),
+        (WrongOwner::BlankReadsIgnoreOwner, &[Clause::Owner]),
+        (WrongOwner::BlankOfOtherIs0, &[Clause::Owner]),
+    ];
+    let in_few_ways = History { seed: 61, held: 12, timers: Some(7), examined: 40, ways: 3, fast: true, ..PLAIN_RUN };
+    for (wrong, clauses) in caught {
+        for edition in EDITIONS {
+            let mut report = Report::default();
+            run(History { edition, ..in_few_ways }, &Stepwise(wrong), &wrong, &mut report);
+            println!("{wrong:?}: {:?}", report.lost);
+            let is_caught = clauses.iter().any(|clause| report.lost.contains_key(clause));
+            assert!(is_caught, "{wrong:?} was not caught by {clauses:?} in {edition:?}");
+        }
+    }
+    for edition in EDITIONS {
+        let mut report = Report::default();
+        run(History { edition, ..in_few_ways }, &Stepwise(WrongOwner::Nothing), &WrongOwner::Nothing, &mut report);
+        assert_eq!(report.first_lost, None);
+    }
 }

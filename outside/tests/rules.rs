@@ -1,13 +1,14 @@
-//! Single rules of document 01 beyond its examples, and of wishes 1, 2, 4, 6 and 12 of document 02, on every store at hand
-//! and in every form of the pages that has them.
+//! Single rules of document 01 beyond its examples, and of wishes 1, 2, 4, 6, 7 and 12 of document 02, on every store
+//! at hand and in every form of the pages that has them.
 //!
-//! Broken stores that these catch: one that takes a receiving page for current, one whose check counts the low half of each
-//! byte twice, those of which only the wear is wrong, those that are wrong in groups or editions alone, in the larger chip
-//! or in page sizes alone, and in wish 6 alone, see the last test.
+//! Broken stores that these catch: one that takes a receiving page for current, one whose check counts the low half of
+//! each byte twice, those of which only the wear is wrong, those that are wrong in groups or editions alone, in the
+//! larger chip or in page sizes alone, in the two owners alone, and in wish 6 alone, see the last tests.
 
 use std::panic::{catch_unwind, AssertUnwindSafe};
 
-use outside::broken::{Broken, WrongChip, WrongGroup, WRONG_CHIPS, WRONG_GROUPS, WRONG_PAIRINGS, WRONG_WEARS};
+use outside::broken::{Broken, WrongChip, WrongGroup, WrongOwner};
+use outside::broken::{WRONG_CHIPS, WRONG_GROUPS, WRONG_OWNERS, WRONG_PAIRINGS, WRONG_WEARS};
 use outside::images::WRONG_SIZES;
 use outside::page::*;
 use outside::rules::*;
@@ -88,7 +89,7 @@ impl Form {
     }
 
     fn reads(self, store: &dyn Store, pages: &[Vec<u8>], address: u16) -> (u8, u8) {
-        let answer = store.read(&pages.concat(), self.size(), address);
+        let answer = store.read(&pages.concat(), self.size(), is_timers(address), address);
         (answer.number, answer.value)
     }
 
@@ -96,9 +97,9 @@ impl Form {
         page_at(image, self.chip(), page)
     }
 
-    /// A write of all its steps, and a recovery.
+    /// A write of all its steps, by the owner of the address or of the first address, and a recovery.
     fn write(self, store: &dyn Store, image: &mut [u8], address: u16, value: u8) -> Stepped {
-        store.write(image, self.size(), address, value, u16::MAX)
+        store.write(image, self.size(), is_timers(address), address, value, u16::MAX)
     }
 
     fn recover(self, store: &dyn Store, image: &mut [u8]) -> Stepped {
@@ -106,7 +107,8 @@ impl Form {
     }
 
     fn write_group(self, store: &dyn Store, image: &mut [u8], settings: &[Setting]) -> Stepped {
-        store.write_group(image, self.size(), &group_bytes(settings), u16::MAX)
+        let change = Change::Group(settings.to_vec());
+        store.change(image, self.size(), change.timer(), &change, u16::MAX)
     }
 }
 
@@ -256,14 +258,19 @@ fn only_used_pages_answer() {
     });
 }
 
+/// The addresses of the handset and of the timer in turn: 0, 32,768, 1, 32,769 and so on.
+fn of_both(index: u16) -> u16 {
+    index / 2 + 32_768 * (index % 2)
+}
+
 #[test]
 fn tests_go_in_order() {
     in_forms(&FORMS, |store, form| {
-        let number =
-            |pages: &[Vec<u8>], address, value| store.write(&mut pages.concat(), form.size(), address, value, 9).number;
+        let number = |pages: &[Vec<u8>], address, value| form.write(store, &mut pages.concat(), address, value).number;
         let (plain, cleared) = (|order, slots: &[Word]| form.plain(order, slots), form.cleared(1));
-        let full_of =
-            |held: u16| -> Vec<Word> { (0..form.slots() as u16).map(|slot| record(slot.min(held - 1), 1)).collect() };
+        let full_of = |held: u16| -> Vec<Word> {
+            (0..form.slots() as u16).map(|slot| record(of_both(slot.min(held - 1)), 1)).collect()
+        };
         let (full_of_192, full_of_193) = (full_of(192), full_of(193));
         let but_the_last = &full_of_192[..form.slots() - 1];
         let bad = form.filled_with(0);
@@ -309,13 +316,21 @@ fn blanks(store: &dyn Store, form: Form) {
     let size = form.size();
     let mut image = [form.plain(0, &[record(5, 0), record(6, 255), record(7, 65)]), form.cleared(1)].concat();
     for (address, number, value) in [(5, OK, 0), (6, OK, 255), (7, OK, 65), (8, NOT_HELD, 0), (65_534, NOT_HELD, 0)] {
-        assert_eq!(store.read(&image, size, address), Reading { number, value }, "read of {address}");
-        assert_eq!(store.blank_read(&image, size, address), Reading { number: OK, value }, "blank read of {address}");
+        assert_eq!(
+            store.read(&image, size, is_timers(address), address),
+            Reading { number, value },
+            "read of {address}"
+        );
+        assert_eq!(
+            store.blank_read(&image, size, is_timers(address), address),
+            Reading { number: OK, value },
+            "blank read of {address}"
+        );
     }
     for (address, steps) in [(5, 0), (8, 2), (8, 0)] {
         assert_eq!(form.write(store, &mut image, address, 0), done(steps));
-        assert_eq!(store.read(&image, size, address), Reading { number: OK, value: 0 });
-        assert_eq!(store.blank_read(&image, size, address), Reading { number: OK, value: 0 });
+        assert_eq!(store.read(&image, size, is_timers(address), address), Reading { number: OK, value: 0 });
+        assert_eq!(store.blank_read(&image, size, is_timers(address), address), Reading { number: OK, value: 0 });
     }
 }
 
@@ -339,15 +354,19 @@ fn a_refusal_answers_nothing_else() {
             (DAMAGED, [with_code.clone(), form.plain(1, &[])].concat()),
             (DAMAGED, [form.plain(0, &too_many), cleared.clone()].concat()),
         ] {
-            for address in [16, 300, NO_ADDRESS] {
-                assert_eq!(store.read(&image, size, address), Reading { number, value: 0 });
-                assert_eq!(store.blank_read(&image, size, address), Reading { number, value: 0 });
+            for (address, timer) in
+                [16, 300, NO_ADDRESS].into_iter().flat_map(|address| BOTH_OWNERS.map(|timer| (address, timer)))
+            {
+                assert_eq!(store.read(&image, size, timer, address), Reading { number, value: 0 });
+                assert_eq!(store.blank_read(&image, size, timer, address), Reading { number, value: 0 });
             }
             assert_eq!(store.lookup(&image, size), Pairing { number, paired: false, digits: [0; 4] });
         }
         let good = [with_code, cleared].concat();
-        assert_eq!(store.read(&good, size, NO_ADDRESS), Reading { number: ADDRESS, value: 0 });
-        assert_eq!(store.blank_read(&good, size, NO_ADDRESS), Reading { number: ADDRESS, value: 0 });
+        for timer in BOTH_OWNERS {
+            assert_eq!(store.read(&good, size, timer, NO_ADDRESS), Reading { number: ADDRESS, value: 0 });
+            assert_eq!(store.blank_read(&good, size, timer, NO_ADDRESS), Reading { number: ADDRESS, value: 0 });
+        }
         assert_eq!(store.lookup(&good, size), Pairing { number: OK, paired: true, digits: [9; 4] });
     });
 }
@@ -436,7 +455,7 @@ fn slots_with_groups() -> Vec<(Vec<Word>, &'static [u16], bool)> {
 fn found(store: &dyn Store, form: Form, image: &[u8]) -> Vec<u16> {
     let mut found = Vec::new();
     for (address, value) in [(5, 0x41), (6, 0x42)] {
-        match store.read(image, form.size(), address) {
+        match store.read(image, form.size(), is_timers(address), address) {
             Reading { number: OK, value: read } if read == value => found.push(address),
             answer => assert_eq!(answer, Reading::refused(NOT_HELD)),
         }
@@ -461,7 +480,7 @@ fn counting(store: &dyn Store, form: Form) {
         assert_eq!(form.page_at(&image, 0), form.plain(0, &[slots.clone(), abandoned].concat()), "{slots:?}");
         assert_eq!(found(store, form, &image), counted, "{slots:?}");
         assert_eq!(form.write(store, &mut image, 7, 1).number, OK, "{slots:?}");
-        assert_eq!(store.read(&image, form.size(), 7), Reading { number: OK, value: 1 }, "{slots:?}");
+        assert_eq!(store.read(&image, form.size(), false, 7), Reading { number: OK, value: 1 }, "{slots:?}");
     }
 }
 
@@ -492,7 +511,7 @@ fn dead_groups(store: &dyn Store, form: Form) {
         assert_eq!(form.write(store, &mut image, 7, 1), done(4));
         assert_eq!(form.page_at(&image, 1), form.plain(4, &[record(7, 1)]), "{slots:?}");
         assert_eq!(found(store, form, &image), counted, "{slots:?}");
-        let goes_on = store.read(&image, form.size(), 7);
+        let goes_on = store.read(&image, form.size(), false, 7);
         assert_eq!(goes_on, Reading { number: OK, value: 1 }, "a group goes on: {slots:?}");
         assert_eq!(form.write(store, &mut image, 7, 2), done(2));
         let pages = [form.plain(3, &[o(1), A]), form.plain(4, &[c(1)]), cleared.clone()];
@@ -563,7 +582,7 @@ fn editions(store: &dyn Store) {
         let used = form.moved(4, &[record(5, 7)]);
         let old = [form.plain(3, &[]), other.plain(9, &[record(5, 8)])];
         let mut image = [old.concat(), used.clone(), form.cleared(2)].concat();
-        assert_eq!(store.read(&image, 1_024, 5), Reading { number: OK, value: 7 });
+        assert_eq!(store.read(&image, 1_024, false, 5), Reading { number: OK, value: 7 });
         assert_eq!(form.recover(store, &mut image), done(6));
         assert!(image == [form.cleared(2), form.cleared(3), used, form.cleared(2)].concat(), "{form:?}");
     }
@@ -579,16 +598,24 @@ fn a_store_has_one_edition() {
     on_every_store(editions);
 }
 
-/// A store in which these addresses are held, with value 1, and so many slots are free.
-fn with_free_slots(form: Form, order: u32, held: u16, free: usize) -> [Vec<u8>; 2] {
-    let mut slots: Vec<Word> = (0..held).map(|address| record(address, 1)).collect();
+/// A store that holds so many addresses of the handset, from 0 on, and so many of the timer, from 32,768 on, each with
+/// value 1; so many slots are free.
+fn holding(form: Form, order: u32, [handset, timer]: [u16; 2], free: usize) -> [Vec<u8>; 2] {
+    let addresses = (0..handset).chain(32_768..32_768 + timer);
+    let mut slots: Vec<Word> = addresses.map(|address| record(address, 1)).collect();
     slots.resize(form.slots() - free, SPOILED);
     [form.plain(order, &slots), form.cleared(1)]
 }
 
+/// The same with so many addresses of both, as many of the one as of the other.
+fn with_free_slots(form: Form, order: u32, held: u16, free: usize) -> [Vec<u8>; 2] {
+    holding(form, order, [held - held / 2, held / 2], free)
+}
+
 fn answers_to_groups(store: &dyn Store, form: Form) {
     let number = |pages: &[Vec<u8>], group: &[Setting]| form.write_group(store, &mut pages.concat(), group).number;
-    let bytes = |pages: &[Vec<u8>], group: &[u8]| store.write_group(&mut pages.concat(), form.size(), group, 9).number;
+    let bytes =
+        |pages: &[Vec<u8>], group: &[u8]| store.write_group(&mut pages.concat(), form.size(), false, group, 9).number;
     let with_free_slots = |order, held, free| with_free_slots(form, order, held, free);
     let empty = [form.plain(0, &[]), form.cleared(1)];
     let new: Vec<Setting> = (300..309).map(|address| (address, 7)).collect();
@@ -668,9 +695,9 @@ fn placing(store: &dyn Store, form: Form) {
         assert!(image == after, "{steps} steps");
         for allowance in 0..steps {
             let mut image = before.clone();
-            let answer = store.write_group(&mut image, form.size(), &group_bytes(&group), allowance);
+            let answer = store.write_group(&mut image, form.size(), false, &group_bytes(&group), allowance);
             assert_eq!(answer, Stepped { number: OK, finished: false, steps: allowance });
-            let read = |image: &[u8], address| store.read(image, form.size(), address);
+            let read = |image: &[u8], address| store.read(image, form.size(), is_timers(address), address);
             assert_eq!(read(&image, 7).number, NOT_HELD, "after {allowance} of {steps} steps");
             assert_eq!(read(&image, 5), read(&before, 5));
             assert_eq!(read(&image, 9), read(&before, 9));
@@ -784,10 +811,10 @@ fn numbers(store: &dyn Store, image: &[u8], size: u16) -> [u8; 8] {
         &|image| store.format(image, size, false),
         &|image| store.format(image, size, true),
         &|image| store.recover(image, size, u16::MAX).number,
-        &|image| store.write(image, size, 5, 1, u16::MAX).number,
-        &|image| store.write_group(image, size, &[5, 0, 1], u16::MAX).number,
-        &|image| store.read(image, size, 5).number,
-        &|image| store.blank_read(image, size, 5).number,
+        &|image| store.write(image, size, false, 5, 1, u16::MAX).number,
+        &|image| store.write_group(image, size, false, &[5, 0, 1], u16::MAX).number,
+        &|image| store.read(image, size, false, 5).number,
+        &|image| store.blank_read(image, size, false, 5).number,
         &|image| store.lookup(image, size).number,
     ];
     calls.map(|call| {
@@ -807,11 +834,11 @@ fn sizes(store: &dyn Store) {
             assert_eq!(numbers(store, &[], size), [SIZE; 8], "{size} and no bytes");
         }
         for size in (0..=u16::MAX).filter(|size| ![1_024, 2_048].contains(size)) {
-            assert_eq!(store.read(&image, size, 5), Reading::refused(SIZE), "{size}");
+            assert_eq!(store.read(&image, size, false, 5), Reading::refused(SIZE), "{size}");
         }
-        assert_eq!(store.read(&image, form.size(), 5), Reading { number: OK, value: 0x41 });
+        assert_eq!(store.read(&image, form.size(), false, 5), Reading { number: OK, value: 0x41 });
         // At the other size the page is bad.
-        assert_eq!(store.read(&image, 3_072 - form.size(), 5), Reading::refused(NO_STORE));
+        assert_eq!(store.read(&image, 3_072 - form.size(), false, 5), Reading::refused(NO_STORE));
     }
 }
 
@@ -870,7 +897,7 @@ fn slots_of_larger(store: &dyn Store) {
         assert_eq!(THIRD.write(store, &mut image, 5, 0x41), done(2), "slot {slot}");
         assert!(image == [THIRD.plain(0, &[taken(slot), vec![A]].concat()), cleared()].concat(), "slot {slot}");
         assert_eq!(image[12 + 4 * slot..][..4], A);
-        assert_eq!(store.read(&image, 2_048, 5), Reading { number: OK, value: 0x41 }, "slot {slot}");
+        assert_eq!(store.read(&image, 2_048, false, 5), Reading { number: OK, value: 0x41 }, "slot {slot}");
     }
     // With slot 508 taken a page is full, and not before.
     let full = THIRD.plain(0, &[taken(508), vec![A]].concat());
@@ -928,7 +955,7 @@ fn edition_of_larger(store: &dyn Store) {
         // Such a page has no wear, and is renewed with the edition that there is.
         let open = THIRD.plain(0, &[A]);
         let mut image = [unread, open.clone(), not_cleared].concat();
-        assert_eq!(store.read(&image, 2_048, 5), Reading { number: OK, value: 0x41 }, "{third_byte}");
+        assert_eq!(store.read(&image, 2_048, false, 5), Reading { number: OK, value: 0x41 }, "{third_byte}");
         assert_eq!(THIRD.write(store, &mut image, 5, 1), Stepped::refused(UNCLEAN), "{third_byte}");
         assert_eq!(THIRD.recover(store, &mut image), done(6), "{third_byte}");
         assert!(image == [THIRD.cleared(2), open, THIRD.cleared(3)].concat(), "{third_byte}");
@@ -947,7 +974,10 @@ fn records_that_pass_for_a_header(store: &dyn Store) {
     assert_eq!(store.format(&mut image, 2_048, false), OK);
     (0..253).for_each(|count| assert_eq!(THIRD.write(store, &mut image, 5, count), done(2)));
     for (address, value) in [(1, 1), (1, 0), (7, 200), (9, 33)] {
-        assert_eq!(store.read(&image, 1_024, 9), Reading::refused(if address < 7 { NO_STORE } else { NOT_HELD }));
+        assert_eq!(
+            store.read(&image, 1_024, false, 9),
+            Reading::refused(if address < 7 { NO_STORE } else { NOT_HELD })
+        );
         assert_eq!(THIRD.write(store, &mut image, address, value), done(2));
     }
     let middle = [FIRST.wear(1), order_word(0, PLAIN), record(7, 200), record(9, 33)].concat();
@@ -955,17 +985,324 @@ fn records_that_pass_for_a_header(store: &dyn Store) {
     for (address, at_smaller, at_larger) in [(5, None, Some(252)), (1, None, Some(0)), (9, Some(33), Some(33))] {
         for (size, held) in [(1_024, at_smaller), (2_048, at_larger)] {
             let expected = held.map_or(Reading::refused(NOT_HELD), |value| Reading { number: OK, value });
-            assert_eq!(store.read(&image, size, address), expected, "{address} at {size}");
+            assert_eq!(store.read(&image, size, is_timers(address), address), expected, "{address} at {size}");
         }
     }
     assert_eq!(FIRST.write(store, &mut image, 9, 34), Stepped::refused(UNCLEAN));
     assert_eq!(FIRST.recover(store, &mut image), done(9));
-    assert_eq!(store.read(&image, 2_048, 5), Reading::refused(NO_STORE));
+    assert_eq!(store.read(&image, 2_048, false, 5), Reading::refused(NO_STORE));
 }
 
 #[test]
 fn records_may_pass_for_a_header() {
     on_every_store(records_that_pass_for_a_header);
+}
+
+// Wish 7: the handset has the addresses 0 to 32,767, the glaze timer 32,768 to 65,534, and neither may come to hold
+// more than 128.
+
+const HANDSET: bool = false;
+const TIMER: bool = true;
+const BOTH_OWNERS: [bool; 2] = [HANDSET, TIMER];
+
+/// A write of one setting, or of a group, by the owner that is named, of all its steps.
+fn by(store: &dyn Store, form: Form, timer: bool, image: &mut [u8], settings: &[Setting]) -> Stepped {
+    let change = match *settings {
+        [setting] => Change::Single(setting),
+        _ => Change::Group(settings.to_vec()),
+    };
+    store.change(image, form.size(), timer, &change, u16::MAX)
+}
+
+/// Each address is one owner's: only this one writes and reads it, held or not.
+fn whose_addresses(store: &dyn Store, form: Form) {
+    let size = form.size();
+    let ends = [0, 1, 16, 19, 255, 256, 32_766, 32_767, 32_768, 32_769, 32_784, 33_023, 65_533, 65_534];
+    for address in (0..65_535).step_by(1_789).chain(ends) {
+        let timer = address > 32_767;
+        let mut image = [form.plain(0, &[]), form.cleared(1)].concat();
+        for (value, steps) in [(0, 2), (0, 0), (9, 2), (9, 0)] {
+            let before = image.clone();
+            for other in [value, 7] {
+                let answer = by(store, form, !timer, &mut image, &[(address, other)]);
+                assert_eq!(answer, Stepped::refused(OWNER), "{other} at {address}");
+            }
+            assert!(image == before, "{address}");
+            assert_eq!(by(store, form, timer, &mut image, &[(address, value)]), done(steps), "{value} at {address}");
+            assert_eq!(store.read(&image, size, timer, address), Reading { number: OK, value });
+            assert_eq!(store.blank_read(&image, size, timer, address), Reading { number: OK, value });
+            assert_eq!(store.read(&image, size, !timer, address), Reading::refused(OWNER), "{address}");
+            assert_eq!(store.blank_read(&image, size, !timer, address), Reading::refused(OWNER), "{address}");
+            // The address of the other 32,768 on or back is not held.
+            if address != 32_767 {
+                let twin = address ^ 32_768;
+                assert_eq!(store.read(&image, size, !timer, twin), Reading::refused(NOT_HELD), "{twin}");
+                assert_eq!(store.blank_read(&image, size, !timer, twin), Reading { number: OK, value: 0 }, "{twin}");
+                assert_eq!(store.read(&image, size, timer, twin), Reading::refused(OWNER), "{twin}");
+                assert_eq!(store.blank_read(&image, size, timer, twin), Reading::refused(OWNER), "{twin}");
+            }
+        }
+    }
+}
+
+/// OWNER comes behind ADDRESS, and before everything that a value, or the settings that there are, can make of it.
+fn order_of_owner(store: &dyn Store, form: Form) {
+    let cleared = || form.cleared(1);
+    for (timer, own, foreign) in [(HANDSET, 5, 40_000), (TIMER, 40_000, 5)] {
+        let write = |pages: &[Vec<u8>], address, value| {
+            let mut image = pages.concat();
+            by(store, form, timer, &mut image, &[(address, value)]).number
+        };
+        let read = |pages: &[Vec<u8>], address| {
+            let readings = [
+                store.read(&pages.concat(), form.size(), timer, address),
+                store.blank_read(&pages.concat(), form.size(), timer, address),
+            ];
+            readings.map(|reading| reading.number)
+        };
+        let unclean = [form.plain(0, &[record(foreign, 1)]), form.filled_with(0)];
+        for (pages, of_write, of_read) in [
+            (vec![form.plain(0, &[])], SIZE, SIZE),
+            (vec![cleared(), cleared()], NO_STORE, NO_STORE),
+            (vec![form.plain(0, &[]), form.plain(0, &[]), cleared()], DAMAGED, DAMAGED),
+            (holding(form, 0, [97, 96], 0).to_vec(), DAMAGED, DAMAGED),
+            (unclean.to_vec(), UNCLEAN, OWNER),
+            (vec![form.plain(0, &[]), cleared()], OWNER, OWNER),
+            (vec![form.plain(0, &[record(foreign, 1)]), cleared()], OWNER, OWNER),
+        ] {
+            assert_eq!(write(&pages, foreign, 1), of_write, "by the timer: {timer}");
+            assert_eq!(read(&pages, foreign), [of_read; 2], "by the timer: {timer}");
+        }
+        // 65,535 is the address of neither.
+        assert_eq!(write(&[form.plain(0, &[]), cleared()], NO_ADDRESS, 1), ADDRESS);
+        assert_eq!(read(&[form.plain(0, &[]), cleared()], NO_ADDRESS), [ADDRESS; 2]);
+        // Where there is no room for the address of the other, nor an order for its page.
+        for held in [[96, 96], [128, 0], [0, 128], [150, 0], [0, 150]] {
+            for order in [0, LAST_ORDER] {
+                assert_eq!(write(&holding(form, order, held, 0), foreign, 1), OWNER, "{held:?}");
+            }
+        }
+        let full = [form.plain(LAST_ORDER, &vec![record(foreign, 1); form.slots()]), cleared()];
+        for value in [1, 2] {
+            assert_eq!(write(&full, foreign, value), OWNER);
+        }
+        assert_eq!(write(&full, own, 1), ORDER_END);
+        // NO ROOM by the limit comes before ORDER END.
+        let at_the_limit = holding(form, LAST_ORDER, if timer { [0, 128] } else { [128, 0] }, 0);
+        assert_eq!(write(&at_the_limit, if timer { 50_000 } else { 500 }, 1), NO_ROOM);
+    }
+}
+
+/// What is held, the owner's first and then the other's, and the answer to a write of so many new addresses of the
+/// owner beside as many that it holds.
+const AT_THE_LIMIT: [([u16; 2], u16, u16, u8); 47] = [
+    // One address.
+    ([0, 0], 1, 0, OK),
+    ([126, 0], 1, 0, OK),
+    ([127, 0], 1, 0, OK),
+    ([128, 0], 1, 0, NO_ROOM),
+    ([129, 0], 1, 0, NO_ROOM),
+    ([150, 0], 1, 0, NO_ROOM),
+    ([191, 0], 1, 0, NO_ROOM),
+    ([192, 0], 1, 0, NO_ROOM),
+    ([127, 63], 1, 0, OK),
+    ([127, 64], 1, 0, OK),
+    ([128, 63], 1, 0, NO_ROOM),
+    ([128, 64], 1, 0, NO_ROOM),
+    ([100, 91], 1, 0, OK),
+    ([100, 92], 1, 0, NO_ROOM),
+    ([127, 65], 1, 0, NO_ROOM),
+    ([0, 128], 1, 0, OK),
+    ([63, 128], 1, 0, OK),
+    ([64, 128], 1, 0, NO_ROOM),
+    ([0, 129], 1, 0, OK),
+    ([0, 191], 1, 0, OK),
+    ([0, 192], 1, 0, NO_ROOM),
+    // What is held may change, however much that is.
+    ([128, 0], 0, 1, OK),
+    ([129, 0], 0, 1, OK),
+    ([192, 0], 0, 1, OK),
+    ([128, 64], 0, 1, OK),
+    ([64, 128], 0, 1, OK),
+    // A group.
+    ([120, 0], 8, 0, OK),
+    ([121, 0], 8, 0, NO_ROOM),
+    ([121, 0], 7, 1, OK),
+    ([126, 0], 2, 0, OK),
+    ([126, 0], 3, 0, NO_ROOM),
+    ([126, 0], 2, 6, OK),
+    ([126, 0], 3, 5, NO_ROOM),
+    ([127, 0], 1, 7, OK),
+    ([127, 0], 2, 6, NO_ROOM),
+    ([128, 0], 0, 8, OK),
+    ([128, 0], 1, 7, NO_ROOM),
+    ([129, 0], 0, 8, OK),
+    ([129, 0], 1, 7, NO_ROOM),
+    ([190, 0], 0, 8, OK),
+    ([190, 0], 2, 0, NO_ROOM),
+    ([120, 64], 8, 0, OK),
+    ([120, 65], 8, 0, NO_ROOM),
+    ([56, 128], 8, 0, OK),
+    ([57, 128], 8, 0, NO_ROOM),
+    ([0, 150], 8, 0, OK),
+    ([0, 185], 8, 0, NO_ROOM),
+];
+
+/// The rows of one address or, where there are groups, all. Each is of the handset and of the timer, and the write goes
+/// to a free slot or moves.
+fn limits(store: &dyn Store, form: Form) {
+    let rows = AT_THE_LIMIT.into_iter().filter(|&(_, new, held, _)| form.0.has_groups() || new + held == 1);
+    for ((held, new, changed, number), timer) in rows.flat_map(|row| BOTH_OWNERS.map(|timer| (row, timer))) {
+        let first = if timer { 32_768 } else { 0 };
+        let others = if timer { [held[1], held[0]] } else { held };
+        let mut settings: Vec<Setting> = (0..new).map(|index| (first + 300 + index, 7)).collect();
+        settings.extend((0..changed).map(|index| (first + held[0] - 1 - index, 7)));
+        let row = format!("{held:?}, {new} new, {changed} held, by the timer: {timer}");
+        for free in [20, 0] {
+            let before = holding(form, 3, others, free).concat();
+            let mut image = before.clone();
+            let answer = by(store, form, timer, &mut image, &settings);
+            assert_eq!(answer.number, number, "{row}");
+            assert!(number == OK || image == before, "{row}");
+            for &(address, value) in &settings {
+                let reading = store.read(&image, form.size(), timer, address);
+                assert!(number != OK || reading == Reading { number: OK, value }, "{row}: {reading:?}");
+            }
+        }
+        // A store of which one owner holds more than 128 is none the less one.
+        let image = holding(form, 3, others, 20).concat();
+        assert_eq!(store.recover(&mut image.clone(), form.size(), 0), done(0), "{row}");
+        assert_eq!(store.lookup(&image, form.size()).number, OK, "{row}");
+        if held[0] > 0 {
+            let last = first + held[0] - 1;
+            assert_eq!(store.read(&image, form.size(), timer, last), Reading { number: OK, value: 1 }, "{row}");
+            // Its own value is accepted, also where there is neither a free slot nor an order.
+            let mut image = holding(form, LAST_ORDER, others, 0).concat();
+            assert_eq!(by(store, form, timer, &mut image, &[(last, 1)]), done(0), "{row}");
+        }
+    }
+}
+
+/// As neither comes to hold more than 128, an owner that then holds at most 64 always has room.
+fn room_for_64(store: &dyn Store, form: Form) {
+    for (timer, others) in BOTH_OWNERS.into_iter().flat_map(|timer| [0, 1, 64, 127, 128].map(|others| (timer, others)))
+    {
+        let first = if timer { 32_768 } else { 0 };
+        for own in [0, 1, 55, 56, 62, 63] {
+            let mut image = holding(form, 0, if timer { [others, own] } else { [own, others] }, 20).concat();
+            let new = if form.0.has_groups() { (64 - own).min(8) } else { 1 };
+            let settings: Vec<Setting> = (0..new).map(|index| (first + 300 + index, 7)).collect();
+            let answer = by(store, form, timer, &mut image, &settings);
+            assert!(answer.number == OK && answer.finished, "{own} beside {others}: {answer:?}");
+        }
+    }
+}
+
+/// One address of the other in a group is enough, in whatever place and with whatever value.
+fn owners_of_groups(store: &dyn Store, form: Form) {
+    for (timer, first, foreign) in [(HANDSET, 0, 32_768), (TIMER, 32_768, 0)] {
+        let image = holding(form, 0, [20, 20], 20).concat();
+        let number = |settings: &[Setting]| {
+            let mut copy = image.clone();
+            let group = group_bytes(settings);
+            let answer = store.write_group(&mut copy, form.size(), timer, &group, u16::MAX);
+            assert!(answer.number == OK || copy == image, "{settings:?}");
+            answer.number
+        };
+        for (count, value) in (1..=8).flat_map(|count| [(count, 1), (count, 2)]) {
+            let own: Vec<Setting> = (first..first + count).map(|address| (address, value)).collect();
+            assert_eq!(number(&own), OK);
+            for place in 0..usize::from(count) {
+                let with = |address, value| {
+                    let mut group = own.clone();
+                    group[place] = (address, value);
+                    group
+                };
+                // Held with this value, held with another, and new.
+                for (address, value) in [(foreign + 9, 1), (foreign + 9, 2), (foreign + 300, 1)] {
+                    assert_eq!(number(&with(address, value)), OWNER, "{address} in place {place} of {count}");
+                }
+                // ADDRESS comes first, in whatever place it is, and GROUP before it.
+                for other in (0..usize::from(count)).filter(|&other| other != place) {
+                    let mut group = with(foreign + 9, 1);
+                    group[other].0 = NO_ADDRESS;
+                    assert_eq!(number(&group), ADDRESS, "places {place} and {other} of {count}");
+                    group[other].0 = foreign + 9;
+                    assert_eq!(number(&group), GROUP, "places {place} and {other} of {count}");
+                }
+            }
+        }
+        let nine: Vec<Setting> = (foreign..foreign + 9).map(|address| (address, 1)).collect();
+        assert_eq!(number(&nine), GROUP);
+        assert_eq!(number(&nine[..8]), OWNER);
+        // Without room, and in a store that waits for recovery.
+        let full = holding(form, LAST_ORDER, [96, 96], 0);
+        let new = [(first, 2), (foreign + 300, 1)];
+        let answer = store.write_group(&mut full.concat(), form.size(), timer, &group_bytes(&new), 9);
+        assert_eq!(answer, Stepped::refused(OWNER));
+        let cut = [form.plain(0, &[o(1)]), form.cleared(1)];
+        let answer = store.write_group(&mut cut.concat(), form.size(), timer, &group_bytes(&new), 9);
+        assert_eq!(answer, Stepped::refused(UNCLEAN));
+    }
+}
+
+/// The first edition has no groups, whoever asks.
+fn owners_in_first_edition(store: &dyn Store) {
+    let image = [FIRST.plain(0, &[]), FIRST.cleared(1)].concat();
+    for timer in BOTH_OWNERS {
+        for address in [5, 40_000] {
+            let answer = store.write_group(&mut image.clone(), 1_024, timer, &group_bytes(&[(address, 1)]), 9);
+            assert_eq!(answer, Stepped::refused(GROUP));
+        }
+    }
+}
+
+/// A move carries what both hold, by rising address, whoever writes; and so does the search in what it leaves.
+fn both_are_moved(store: &dyn Store, form: Form) {
+    let held = [record(40_000, 4), record(7, 1), record(32_768, 3), record(32_767, 2), record(65_534, 5)];
+    let full = [vec![SPOILED; form.slots() - 5], held.to_vec()].concat();
+    let before = [form.plain(6, &full), form.cleared(1)].concat();
+    let [at_7, at_32767, at_32768, at_40000, at_65534] =
+        [record(7, 1), record(32_767, 2), record(32_768, 3), record(40_000, 4), record(65_534, 5)];
+    for (setting, moved) in [
+        ((7, 9), [at_32767, at_32768, at_40000, at_65534, record(7, 9)]),
+        ((40_000, 9), [at_7, at_32767, at_32768, at_65534, record(40_000, 9)]),
+    ] {
+        let mut image = before.clone();
+        assert_eq!(form.write(store, &mut image, setting.0, setting.1), done(2 * 5 + 4 + 3));
+        assert!(image == [form.cleared(2), form.moved(7, &moved)].concat(), "{setting:?}");
+        for (address, value) in [(7, 1), (32_767, 2), (32_768, 3), (40_000, 4), (65_534, 5)] {
+            let value = if address == setting.0 { setting.1 } else { value };
+            assert_eq!(form.reads(store, &[image.clone()], address), (OK, value), "{address} after {setting:?}");
+        }
+    }
+    if form.0.has_groups() {
+        let mut image = before;
+        assert_eq!(form.write_group(store, &mut image, &[(65_534, 8), (32_768, 9)]), done(2 * 5 + 4 + 3));
+        let moved = [at_7, at_32767, at_40000, record(65_534, 8), record(32_768, 9)];
+        assert!(image == [form.cleared(2), form.moved(7, &moved)].concat());
+    }
+}
+
+/// The pairing code is the handset's. The lookup names nobody and finds it, whatever stands 32,768 further on.
+fn whose_code(store: &dyn Store, form: Form) {
+    let records: Vec<Word> = (32_784..32_788).map(|address| record(address, 8)).collect();
+    let mut image = [form.plain(0, &records), form.cleared(1)].concat();
+    assert_eq!(store.lookup(&image, form.size()), Pairing { number: OK, paired: false, digits: [0; 4] });
+    for (address, digit) in [(16, 7), (17, 1), (18, 3), (19, 9)] {
+        assert_eq!(by(store, form, TIMER, &mut image, &[(address, digit)]), Stepped::refused(OWNER));
+        assert_eq!(by(store, form, HANDSET, &mut image, &[(address, digit)]), done(2));
+    }
+    assert_eq!(store.lookup(&image, form.size()), Pairing { number: OK, paired: true, digits: [7, 1, 3, 9] });
+}
+
+const OF_OWNERS: [RuleOfForm; 6] = [whose_addresses, order_of_owner, limits, room_for_64, both_are_moved, whose_code];
+
+#[test]
+fn two_owners_share_a_store() {
+    in_forms(&FORMS, |store, form| OF_OWNERS.iter().for_each(|rule| rule(store, form)));
+    in_forms(&WITH_GROUPS, owners_of_groups);
+    on_every_store(owners_in_first_edition);
 }
 
 fn is_caught(rule: impl Fn()) -> bool {
@@ -1023,5 +1360,34 @@ fn wrong_chips_are_caught() {
     for wrong in WRONG_CHIPS {
         let store = Stepwise(wrong);
         assert!(is_caught(|| passes(&store)), "{wrong:?}");
+    }
+}
+
+/// All that has nothing to do with groups is caught in every form.
+#[test]
+fn wrong_owners_are_caught() {
+    let of_groups = [
+        WrongOwner::OwnerBeforeGroup,
+        WrongOwner::FirstAddressTested,
+        WrongOwner::LastAddressTested,
+        WrongOwner::OneOwnSuffices,
+        WrongOwner::HeldCountAsNew,
+        WrongOwner::NewCountAsOne,
+    ];
+    let passes = |store: &dyn Store, form: Form| {
+        OF_OWNERS.iter().for_each(|rule| rule(store, form));
+        if form.0.has_groups() {
+            owners_of_groups(store, form);
+        } else {
+            owners_in_first_edition(store);
+        }
+    };
+    FORMS.into_iter().for_each(|form| passes(&Stepwise(WrongOwner::Nothing), form));
+    for wrong in WRONG_OWNERS {
+        let store = Stepwise(wrong);
+        let forms: &[Form] = if of_groups.contains(&wrong) { &WITH_GROUPS } else { &FORMS };
+        for &form in forms {
+            assert!(is_caught(|| passes(&store, form)), "{wrong:?} in {form:?}");
+        }
     }
 }

@@ -53,11 +53,12 @@ pub unsafe extern "C" fn istrovell_write(
     image: *mut u8,
     length: usize,
     page_size: u16,
+    timer: bool,
     address: u16,
     value: u8,
     allowance: u16,
 ) -> Stepped {
-    stepped(outside::Second.write(from_raw_parts_mut(image, length), page_size, address, value, allowance))
+    stepped(outside::Second.write(from_raw_parts_mut(image, length), page_size, timer, address, value, allowance))
 }
 
 /// # Safety
@@ -67,19 +68,26 @@ pub unsafe extern "C" fn istrovell_write_group(
     image: *mut u8,
     length: usize,
     page_size: u16,
+    timer: bool,
     group: *const u8,
     group_length: usize,
     allowance: u16,
 ) -> Stepped {
     let group = from_raw_parts(group, group_length);
-    stepped(outside::Second.write_group(from_raw_parts_mut(image, length), page_size, group, allowance))
+    stepped(outside::Second.write_group(from_raw_parts_mut(image, length), page_size, timer, group, allowance))
 }
 
 /// # Safety
 /// As `istrovell_format`.
 #[no_mangle]
-pub unsafe extern "C" fn istrovell_read(image: *const u8, length: usize, page_size: u16, address: u16) -> Reading {
-    reading(outside::Second.read(from_raw_parts(image, length), page_size, address))
+pub unsafe extern "C" fn istrovell_read(
+    image: *const u8,
+    length: usize,
+    page_size: u16,
+    timer: bool,
+    address: u16,
+) -> Reading {
+    reading(outside::Second.read(from_raw_parts(image, length), page_size, timer, address))
 }
 
 /// # Safety
@@ -89,9 +97,10 @@ pub unsafe extern "C" fn istrovell_blank_read(
     image: *const u8,
     length: usize,
     page_size: u16,
+    timer: bool,
     address: u16,
 ) -> Reading {
-    reading(outside::Second.blank_read(from_raw_parts(image, length), page_size, address))
+    reading(outside::Second.blank_read(from_raw_parts(image, length), page_size, timer, address))
 }
 
 /// # Safety

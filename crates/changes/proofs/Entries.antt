@@ -10,6 +10,7 @@ use borrow.Author.Tests.{eq-eqb, ne-eqb, le-leb, lt-leb}
 use Rattle.rules.specs.Word.{Word, record-word}
 use Rattle.rules.specs.Steps.{record-of}
 use Rattle.rules.specs.Store.{Setting, setting, address-of}
+use Rattle.rules.specs.Owner.{Owner, a-foreign}
 use Rattle.rules.specs.Call.{among, repeats, wrong-address, a-wrong-address, triples}
 use Rattle.changes.specs.Entries.{byte-address, byte-value}
 
@@ -116,6 +117,19 @@ module _ (s : List ℕ) (k : ℕ) where
   pub wrong-nowhere : length s / 3 ≤ k → a-wrong-address (drop k (triples s)) ≡ false
   unfolding a-wrong-address
   wrong-nowhere l = ap a-wrong-address (none-behind s k l)
+
+  module _ (o : Owner) where
+    pub foreign-here : 3 * k + 3 ≤ length s → o .owns (byte-address s k) ≡ false → a-foreign o (drop k (triples s)) ≡ true
+    unfolding a-foreign
+    foreign-here l e = rw (from-entry s k l, e)
+
+    pub foreign-later : 3 * k + 3 ≤ length s → o .owns (byte-address s k) ≡ true → a-foreign o (drop k (triples s)) ≡ a-foreign o (drop (k + 1) (triples s))
+    unfolding a-foreign
+    foreign-later l e = rw (from-entry s k l, e)
+
+    pub foreign-nowhere : length s / 3 ≤ k → a-foreign o (drop k (triples s)) ≡ false
+    unfolding a-foreign
+    foreign-nowhere l = ap (a-foreign o) (none-behind s k l)
 
 -- ---- the records that they make, as words
 

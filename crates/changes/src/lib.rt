@@ -6,6 +6,7 @@ ghost use mathlib.Core.List.{map};
 ghost use Prim.Native.Nat.{_+_, _*_, _≤_};
 ghost use lib.ListN.{length, drop};
 ghost use Rattle.rules.specs.Store.{address-of};
+ghost use Rattle.rules.specs.Owner.{named-owner, a-foreign};
 ghost use Rattle.rules.specs.Call.{among, repeats, a-wrong-address, triples};
 ghost use Rattle.changes.specs.Entries.{byte-address, byte-value};
 
@@ -68,6 +69,21 @@ pub fn a_wrong_address(entries: &[u8]) -> bool
     let mut i = 0;
     while i < count {
         if NO_ADDRESS <= address_at(entries, i) {
+            return true;
+        }
+        i += 1;
+    }
+    false
+}
+
+// N11. Whether an address is the other owner's.
+pub fn a_foreign(entries: &[u8], timer: bool) -> bool
+    ensures { λ r. ⌜ r ≡ a-foreign (named-owner timer) (triples (now (entries .entry))) ⌝ }
+{
+    let count = entries.len() / 3;
+    let mut i = 0;
+    while i < count {
+        if !owners::owns(timer, address_at(entries, i)) {
             return true;
         }
         i += 1;

@@ -1,19 +1,20 @@
 -- The way of a write by what the look told, test by test. Assumes nothing.
 use Prim.Native.Nat.{ℕ, _+_, _%_, _≤_, _<_}
 use mathlib.Core.Path.{_≡_, refl, sym, ap, _∙_, subst}
-use mathlib.Core.Bool.{Bool, true, false, cond}
+use mathlib.Core.Bool.{Bool, true, false, cond, _||_}
 use mathlib.Core.List.{List, [], _∷_, map}
 use native.Mathlib.Omega.{arith}
 use lib.ListN.{length, length-append, length-map}
 use lib.Dec.{eqb, leb}
-use borrow.Author.Tests.{eqb-false, leb-true, eq-eqb, ne-eqb, le-leb, lt-leb, lt-ltb, le-ltb}
+use borrow.Author.Tests.{eqb-false, leb-true, eq-eqb, ne-eqb, le-leb, lt-leb}
 use Rattle.rules.specs.Word.{mark-word}
-use Rattle.rules.specs.Page.{Form, size, State, Page}
+use Rattle.rules.specs.Page.{Form, size, State}
 use Rattle.rules.specs.Store.{index, states, base, active-order, active-index, active-page, active-slots, has-room, open-group, count, is-cleared, Setting}
-use Rattle.rules.specs.Store.{setting, settings, held, free-slot}
+use Rattle.rules.specs.Store.{setting, free-slot}
 use Rattle.rules.specs.Steps.{unclean, Change, group, settings-of, words-of, record-of, all-values, way, new-page, taken, next-order}
+use Rattle.rules.specs.Owner.{Owner, a-foreign}
 use Rattle.rules.specs.Call.{page-count, pages, wrong-size, store-number, write-number, accepted, is-unclean, wrong-group, a-wrong-address, no-room}
-use Rattle.rules.specs.Call.{order-end, order-limit, held-limit, is-new, ORDER-END, triples, group-of}
+use Rattle.rules.specs.Call.{crowded, order-end, order-limit, ORDER-END, triples, group-of}
 use Rattle.rules.proofs.Cut.{page-within, pages-long}
 use Rattle.rules.proofs.Truth.{by-cases, and-left}
 use Rattle.rules.proofs.Groups.{grouped}
@@ -94,29 +95,19 @@ change-many e false s l g = ap length (sym (single-is s (l refl)))
 
 -- ---- an accepted or refused write
 
-module _ (fm : Form) (c : Change) (i : List ℕ) where
-  pub refused : (n : ℕ) → (n ≡ 0 → ⊥) → write-number fm c i ≡ n → Chosen fm c i (Refuse n)
+module _ (fm : Form) (o : Owner) (c : Change) (i : List ℕ) where
+  pub refused : (n : ℕ) → (n ≡ 0 → ⊥) → write-number fm o c i ≡ n → Chosen fm o c i (Refuse n)
   unfolding way-for Fitting
   refused n ne e = record { is-way = rw (e, not-accepted n ne); fits = tt }
 
-  pub stays : write-number fm c i ≡ 0 → all-values (settings-of c) (pages fm i) ≡ true → Chosen fm c i Stay
+  pub stays : write-number fm o c i ≡ 0 → all-values (settings-of c) (pages fm i) ≡ true → Chosen fm o c i Stay
   unfolding way-for way accepted Fitting
   stays e s = record { is-way = rw (e, s); fits = tt }
 
--- with the new addresses, more than 192 would be held, or not
-module _ (rs : List Setting) (ps : List Page) (n m : ℕ) (held-is : n ≡ length (settings ps)) (new-is : m ≡ count (is-new ps) rs) where
-  pub full : 192 < n + m → no-room rs ps ≡ true
-  unfolding no-room held
-  full l = lt-ltb held-limit (length (settings ps) + count (is-new ps) rs) (omega arith)
-
-  pub roomy : n + m ≤ 192 → no-room rs ps ≡ false
-  unfolding no-room held
-  roomy l = le-ltb held-limit (length (settings ps) + count (is-new ps) rs) (omega arith)
-
 -- ---- the tests before the table is asked
 
-module _ (fm : Form) (c : Change) (rs : List Setting) (i : List ℕ) where
-  pub tested : (n : ℕ) → (n ≡ 0 → ⊥) → write-number fm c i ≡ n → Tested fm c rs i n
+module _ (fm : Form) (o : Owner) (c : Change) (rs : List Setting) (i : List ℕ) where
+  pub tested : (n : ℕ) → (n ≡ 0 → ⊥) → write-number fm o c i ≡ n → Tested fm o c rs i n
   tested n ne e =
       record {
         refused = λ h. e;
@@ -124,17 +115,19 @@ module _ (fm : Form) (c : Change) (rs : List Setting) (i : List ℕ) where
         clean = λ z. absurd (ne z);
         grouped = λ z. absurd (ne z);
         addressed = λ z. absurd (ne z);
+        owned = λ z. absurd (ne z);
       }
 
   pub passed : store-number fm i ≡ 0 → is-unclean (pages fm i) ≡ false → wrong-group (fm .edition) c ≡ false → a-wrong-address rs ≡ false
-      → Tested fm c rs i 0
-  passed ok clean right far =
+      → a-foreign o rs ≡ false → Tested fm o c rs i 0
+  passed ok clean right far own =
       record {
         refused = λ h. absurd (h refl);
         stored = λ z. ok;
         clean = λ z. clean;
         grouped = λ z. right;
         addressed = λ z. far;
+        owned = λ z. own;
       }
 
 -- ---- by what the look told
@@ -190,29 +183,30 @@ module _ {fm : Form} {i : List ℕ} {look : Look} (t : Told fm i look) (ok : sto
 
   -- ---- new records
 
-  module _ (c : Change) (clean : is-unclean (pages fm i) ≡ false) (right : wrong-group (fm .edition) c ≡ false)
-      (far : a-wrong-address (settings-of c) ≡ false) (new : all-values (settings-of c) (pages fm i) ≡ false)
-      (room : no-room (settings-of c) (pages fm i) ≡ false) where
-    pub appends : look .free + length (words-of c) ≤ fm .slot-count → Chosen fm c i (Append (look .active) (look .free))
+  module _ (owner : Owner) (c : Change) (clean : is-unclean (pages fm i) ≡ false) (right : wrong-group (fm .edition) c ≡ false)
+      (far : a-wrong-address (settings-of c) ≡ false) (own : a-foreign owner (settings-of c) ≡ false)
+      (new : all-values (settings-of c) (pages fm i) ≡ false)
+      (room : (no-room (settings-of c) (pages fm i) || crowded owner (settings-of c) (pages fm i)) ≡ false) where
+    pub appends : look .free + length (words-of c) ≤ fm .slot-count → Chosen fm owner c i (Append (look .active) (look .free))
     unfolding way-for way accepted order-end Fitting
     appends l =
         let f = there-is-room (length (words-of c)) l in
         let w = active-within fm i ok in
         record {
-          is-way = rw (write-ok fm c i ok clean right far new room (rw f), new, f, t .active, t .free);
+          is-way = rw (write-ok fm owner c i ok clean right far own new room (rw f), new, f, t .active, t .free);
           fits = (omega (arith, t .active, right-sizes fm i sized .most), l);
         }
 
     -- the page of least wear, opened or moved to
-    new-page-is : fm .slot-count < look .free + length (words-of c) → new-page-of (look .spares) (look .cleared) (look .order) ≡ way-for fm c i
+    new-page-is : fm .slot-count < look .free + length (words-of c) → new-page-of (look .spares) (look .cleared) (look .order) ≡ way-for fm owner c i
     unfolding new-page-of way-for way new-page taken next-order accepted order-end
     new-page-is l =
         let f = no-slots (length (words-of c)) l in
         let p = taken-is all (t .spared) few in
         by-cases (eqb (active-order all) order-limit)
-        (λ o. rw (t .order, o, write-end fm c i ok clean right far new room (rw (f, o))))
+        (λ o. rw (t .order, o, write-end fm owner c i ok clean right far own new room (rw (f, o))))
         (λ o.
-        rw (t .order, o, p, t .clears, write-ok fm c i ok clean right far new room (rw (f, o)), new, f)
+        rw (t .order, o, p, t .clears, write-ok fm owner c i ok clean right far own new room (rw (f, o)), new, f)
         (by-cases (leb 2 (count is-cleared all)) (λ d. rw d) (λ d. rw d)))
 
     next-fits : (look .order ≡ 4194303 → ⊥) → look .order + 1 < 4194304
@@ -230,5 +224,5 @@ module _ {fm : Form} {i : List ℕ} {look : Look} (t : Told fm i look) (ok : sto
         by-cases (leb 2 (look .cleared)) (λ d. rw (o, d) (inside, n)) (λ d. rw (o, d) (inside, n)))
 
     pub opens-page : fm .slot-count < look .free + length (words-of c) → {r : Way} → r ≡ new-page-of (look .spares) (look .cleared) (look .order)
-        → Chosen fm c i r
+        → Chosen fm owner c i r
     opens-page l e = record { is-way = e ∙ new-page-is l; fits = subst (Fitting fm c) (sym e) new-page-fits }

@@ -1,4 +1,5 @@
 // What a write does, chosen by what one look told: the way of a write, or the first test that refuses it.
+use owners::TIMER_FIRST;
 use pages::Form;
 use pages::ORDER_MAX;
 use pages::PAGES_MAX;
@@ -10,20 +11,22 @@ use survey::GROUP;
 use survey::NO_ROOM;
 use survey::OK;
 use survey::ORDER_END;
+use survey::OWNER;
 use survey::UNCLEAN;
 ghost use mathlib.Core.Path.{_≡_};
-ghost use mathlib.Core.Bool.{false, cond};
+ghost use mathlib.Core.Bool.{false, cond, _||_};
 ghost use mathlib.Core.List.{List};
 ghost use Prim.Native.Nat.{ℕ, _+_, _≤_, _<_};
 ghost use lib.ListN.{length};
 ghost use Rattle.rules.specs.Page.{Page};
-ghost use Rattle.rules.specs.Store.{better, index, settings};
-ghost use Rattle.rules.specs.Call.{a-wrong-address, wrong-group, triples, group-of};
+ghost use Rattle.rules.specs.Store.{Setting, better, index, settings};
+ghost use Rattle.rules.specs.Owner.{named-owner, held-by};
+ghost use Rattle.rules.specs.Call.{a-wrong-address, wrong-group, new-in, no-room, crowded, triples, group-of};
 ghost use Rattle.pages.specs.Read.{as-form};
 ghost use Rattle.settings.specs.Held.{Holds, as-option};
 ghost use Rattle.store.specs.Opened.{Opens, Opened};
 ghost use Rattle.choosing.specs.Candidate.{offer, as-candidate, Plain, chosen};
-ghost use Rattle.choosing.specs.Known.{Adds, Knows};
+ghost use Rattle.choosing.specs.Known.{Has, Adds, Knows};
 ghost use Rattle.choosing.specs.Way.{new-page-of, change-of, Lent, Tested, Chosen};
 
 // Refuse by a number; stay, the values being held already; program the change at a page and from its slot there on; open a page
@@ -191,11 +194,11 @@ pub fn slots_of(entries: &[u8], marks: bool) -> usize
     n
 }
 
-// The tests that come before the table is asked: the number of the first that refuses the change, or 0.
-fn first_tests(store: Store, form: Form, entries: &[u8], marks: bool) -> u8
+// The tests that come before the table is asked: the number of the first that refuses the owner's change, or 0.
+fn first_tests(store: Store, form: Form, timer: bool, entries: &[u8], marks: bool) -> u8
     requires { ⌜ (store .number ≡ 0 → store .look .used + store .look .cleared ≤ 32) × Lent marks (now entries) ⌝ }
     ensures { λ r. ⌜ ((i xs ys : List ℕ) → Opens (as-form form) i store xs ys
-        → Tested (as-form form) (change-of marks (now (entries .entry))) (triples (now (entries .entry))) i r) ⌝ }
+        → Tested (as-form form) (named-owner timer) (change-of marks (now (entries .entry))) (triples (now (entries .entry))) i r) ⌝ }
 {
     let number = store.number;
     if number != OK {
@@ -213,13 +216,47 @@ fn first_tests(store: Store, form: Form, entries: &[u8], marks: bool) -> u8
     if changes::a_wrong_address(entries) {
         return ADDRESS;
     }
+    if changes::a_foreign(entries, timer) {
+        return OWNER;
+    }
     OK
 }
 
-// What a write of the change does to the image that the store and the table were opened from.
+// How many of the addresses held are the owner's: in the table the handset's come first.
+fn held_by<'a>(addresses: &'a [u16; HELD_MAX], held: usize, timer: bool) -> usize
+    requires { ⌜ ((ps : List Page) × Has (now addresses) held ps) ⌝ }
+    ensures { λ r. ⌜ ((ps : List Page) → Has (now (addresses .entry)) held ps → r ≡ held-by (named-owner timer) ps) ⌝ }
+    ensures { λ r. ⌜ r ≤ 192 ⌝ }
+{
+    let handsets = settings::place(addresses, TIMER_FIRST);
+    if timer {
+        return held - handsets;
+    }
+    handsets
+}
+
+// N6. NO ROOM: with the new addresses, if there are such, more than 192 would be held, or more by the owner than it may.
+fn is_full<'a>(addresses: &'a [u16; HELD_MAX], held: usize, timer: bool, new: usize) -> bool
+    requires { ⌜ ((ps : List Page) × Has (now addresses) held ps) ⌝ }
+    requires { ⌜ new ≤ 65535 ⌝ }
+    ensures { λ r. ⌜ ((ps : List Page) (rs : List Setting) → Has (now (addresses .entry)) held ps → new ≡ new-in rs ps
+        → r ≡ (no-room rs ps || crowded (named-owner timer) rs ps)) ⌝ }
+{
+    if new == 0 {
+        return false;
+    }
+    if HELD_MAX < held + new {
+        return true;
+    }
+    let most = owners::most();
+    most < held_by(addresses, held, timer) + new
+}
+
+// What an owner's write of the change does to the image that the store and the table were opened from.
 pub fn choose<'a>(
     store: Store,
     form: Form,
+    timer: bool,
     addresses: &'a [u16; HELD_MAX],
     values: &'a [u8; HELD_MAX],
     entries: &[u8],
@@ -228,9 +265,9 @@ pub fn choose<'a>(
     requires { ⌜ Opened (as-form form) store (now addresses) (now values) ⌝ }
     requires { ⌜ Lent marks (now entries) ⌝ }
     ensures { λ r. ⌜ ((i : List ℕ) → Opens (as-form form) i store (now (addresses .entry)) (now (values .entry))
-        → Chosen (as-form form) (change-of marks (now (entries .entry))) i r) ⌝ }
+        → Chosen (as-form form) (named-owner timer) (change-of marks (now (entries .entry))) i r) ⌝ }
 {
-    let number = first_tests(store, form, entries, marks);
+    let number = first_tests(store, form, timer, entries, marks);
     if number != OK {
         return Way::Refuse(number);
     }
@@ -238,7 +275,7 @@ pub fn choose<'a>(
     if known.same {
         return Way::Stay;
     }
-    if HELD_MAX < store.held + known.new {
+    if is_full(addresses, store.held, timer, known.new) {
         return Way::Refuse(NO_ROOM);
     }
     if slots_of(entries, marks) <= form.slots - store.look.free {

@@ -1,5 +1,5 @@
 -- X: the examples, those proved together: a single table, under the one statement at its end.
-use Prim.Native.Nat.{ℕ, _+_}
+use Prim.Native.Nat.{ℕ, zero, suc, _+_}
 use mathlib.Core.Bool.{Bool, true, false, _&&_}
 use mathlib.Core.List.{List, [], _∷_, _++_, map}
 use mathlib.Core.Option.{Option, none, some}
@@ -12,7 +12,9 @@ use Rattle.rules.specs.Page.{Form, size, in-edition, blank-word, State, cleared
 use Rattle.rules.specs.Store.{Setting, setting, address-of, settings, held}
 use Rattle.rules.specs.Steps.{recovery-steps, Change, single}
 use Rattle.rules.specs.Listing.{half, spoiled}
+use Rattle.rules.specs.Owner.{Owner, handset, timer}
 use Rattle.rules.specs.Call.{form-of, pages, is-unclean, Stepped, Reading, Pairing, format, group-of, recover, write, read, blank-read, lookup}
+use Rattle.rules.specs.Call.{first-of, write-only-rows}
 use Rattle.rules.specs.Named.{smaller-chip, larger-chip, format-at, recover-at, write-at, read-at, blank-read-at, lookup-at}
 
 -- a row: what the rules give, and what section X prints
@@ -143,13 +145,13 @@ empty-flash n = replicate n 0xFF
 -- the numbers that all calls give, as a call of each on an image, at a page size
 unfoldable pub numbers : (page-size : ℕ) → List ℕ → List ℕ
 numbers P i =
-    format-at P false i .number ∷ recover-at P 65535 i .number ∷ write-at P (single 0 0) 65535 i .number
-    ∷ read-at P 0 i .number ∷ blank-read-at P 0 i .number ∷ lookup-at P i .number ∷ []
+    format-at P false i .number ∷ recover-at P 65535 i .number ∷ write-at P false (single 0 0) 65535 i .number
+    ∷ read-at P false 0 i .number ∷ blank-read-at P false 0 i .number ∷ lookup-at P i .number ∷ []
 
 -- finished writes, one after the other
 unfoldable pub written : List Setting → List ℕ → List ℕ
 written [] i = i
-written (setting a v ∷ rest) i = written rest (write form₁ (single a v) 65535 i .image)
+written (setting a v ∷ rest) i = written rest (write form₁ handset (single a v) 65535 i .image)
 
 abbrev pub digits : List Setting
 digits = setting 16 0 ∷ setting 17 255 ∷ setting 19 0 ∷ setting 18 7 ∷ setting 18 0 ∷ []
@@ -159,11 +161,11 @@ abbrev pub code-group : Change
 code-group = group-of (0x10 ∷ 0x00 ∷ 0x07 ∷ 0x11 ∷ 0x00 ∷ 0x01 ∷ 0x12 ∷ 0x00 ∷ 0x03 ∷ 0x13 ∷ 0x00 ∷ 0x09 ∷ [])
 
 abbrev pub code-after : (steps : ℕ) → List ℕ → List ℕ
-code-after n i = write form₂ code-group n i .image
+code-after n i = write form₂ handset code-group n i .image
 
 -- what the finished write of a group answers, by its lent bytes; those of nine settings
 unfoldable pub grouped : Form → (lent : List ℕ) → List ℕ → List ℕ
-grouped form lent i = did (write form (group-of lent) 65535 i)
+grouped form lent i = did (write form handset (group-of lent) 65535 i)
 
 abbrev pub nine : List ℕ
 nine = 0 ∷ 0 ∷ 1 ∷ 1 ∷ 0 ∷ 1 ∷ 2 ∷ 0 ∷ 1 ∷ 3 ∷ 0 ∷ 1 ∷ 4 ∷ 0 ∷ 1 ∷ 5 ∷ 0 ∷ 1 ∷ 6 ∷ 0 ∷ 1 ∷ 7 ∷ 0 ∷ 1 ∷ 8 ∷ 0 ∷ 1 ∷ []
@@ -178,6 +180,22 @@ mixed two-pages second = take 1024 second ++ drop 1024 two-pages
 -- the image with these four bytes at an offset
 unfoldable pub with-word : (offset : ℕ) → Word → List ℕ → List ℕ
 with-word n w i = take n i ++ (bytes w ++ drop (n + 4) i)
+
+-- what a read and a blank read by an owner answer, and its write of a value at an address
+unfoldable pub reads-of : Owner → (address : ℕ) → List ℕ → List ℕ
+reads-of o a i = said (read form₂ o a i) ++ said (blank-read form₂ o a i)
+
+unfoldable pub write-of : Owner → (address value : ℕ) → List ℕ → List ℕ
+write-of o a v i = did (write form₂ o (single a v) 65535 i)
+
+-- a store with the records of n addresses from the greatest, n - 1 more than a first, down to it; and the numbers that writes of new
+-- addresses by an owner get there, each of one, of a group of all
+unfoldable pub filled : (first n : ℕ) → List Word
+filled first zero = []
+filled first (suc n) = record-word (first + n) 1 ∷ filled first n
+
+unfoldable pub told-by : Owner → List Word → Change → ℕ
+told-by o ws c = first-of (write-only-rows 2 o c (store-with ws))
 
 -- the rows; two-pages is the image of two formatted pages, second that of two of the second edition, third that of two of 2,048 bytes
 unfoldable pub rows : (two-pages second third : List ℕ) → List Row
@@ -219,13 +237,13 @@ rows two-pages second third =
     ∷ row (numbers 1024 (empty-flash 33792)) (1 ∷ 1 ∷ 1 ∷ 1 ∷ 1 ∷ 1 ∷ [])
     -- 7. 2,048 bytes of 255: NO STORE, but to format. Formatted two pages, read 0: NOT HELD; blank read 0.
     ∷ row (numbers 1024 (empty-flash 2048)) (0 ∷ 2 ∷ 2 ∷ 2 ∷ 2 ∷ 2 ∷ [])
-    ∷ row (said (read form₁ 0 two-pages)) (8 ∷ 0 ∷ [])
-    ∷ row (said (blank-read form₁ 0 two-pages)) (0 ∷ 0 ∷ [])
+    ∷ row (said (read form₁ handset 0 two-pages)) (8 ∷ 0 ∷ [])
+    ∷ row (said (blank-read form₁ handset 0 two-pages)) (0 ∷ 0 ∷ [])
     -- 8. Write (5, 65), allowance 1: 1 step, unfinished, 5 not held. Allowance 2 instead: finished, 65.
-    ∷ row (did (write form₁ (single 5 65) 1 two-pages)) (0 ∷ 1 ∷ 0 ∷ [])
-    ∷ row (said (read form₁ 5 (write form₁ (single 5 65) 1 two-pages .image))) (8 ∷ 0 ∷ [])
-    ∷ row (did (write form₁ (single 5 65) 2 two-pages)) (0 ∷ 2 ∷ 1 ∷ [])
-    ∷ row (said (read form₁ 5 (write form₁ (single 5 65) 2 two-pages .image))) (0 ∷ 65 ∷ [])
+    ∷ row (did (write form₁ handset (single 5 65) 1 two-pages)) (0 ∷ 1 ∷ 0 ∷ [])
+    ∷ row (said (read form₁ handset 5 (write form₁ handset (single 5 65) 1 two-pages .image))) (8 ∷ 0 ∷ [])
+    ∷ row (did (write form₁ handset (single 5 65) 2 two-pages)) (0 ∷ 2 ∷ 1 ∷ [])
+    ∷ row (said (read form₁ handset 5 (write form₁ handset (single 5 65) 2 two-pages .image))) (0 ∷ 65 ∷ [])
     -- X8. Page 0 open with wear 7, page 1 receiving with wear 9, pages 2 and 3 without a wear: recovery gives 10, 11 and 12.
     ∷ row (done-by (recovery-steps 1 (page-with (open₁ 0) (some 7) ∷ page-with receiving (some 9) ∷ page-with bad none ∷ page-with bad none ∷ [])))
     (1 ∷ 0x0A ∷ 0x00 ∷ 0x01 ∷ 0x15 ∷ 2 ∷ 0x0B ∷ 0x00 ∷ 0x01 ∷ 0x14 ∷ 3 ∷ 0x0C ∷ 0x00 ∷ 0x01 ∷ 0x15 ∷ [])
@@ -243,7 +261,7 @@ rows two-pages second third =
     ∷ row (showed (lookup form₁ (written (take 4 digits) two-pages))) (0 ∷ 1 ∷ 0 ∷ 255 ∷ 7 ∷ 0 ∷ [])
     ∷ row (showed (lookup form₁ (written (take 5 digits) two-pages))) (0 ∷ 1 ∷ 0 ∷ 255 ∷ 0 ∷ 0 ∷ [])
     -- X11. A code written as one: 12 steps. After 11 of them none is held, after 12 all four are.
-    ∷ row (did (write form₂ code-group 65535 second)) (0 ∷ 12 ∷ 1 ∷ [])
+    ∷ row (did (write form₂ handset code-group 65535 second)) (0 ∷ 12 ∷ 1 ∷ [])
     ∷ row (held (pages form₂ (code-after 11 second)) ∷ []) (0 ∷ [])
     ∷ row (showed (lookup form₂ (code-after 11 second))) (0 ∷ 0 ∷ 0 ∷ 0 ∷ 0 ∷ 0 ∷ [])
     ∷ row (showed (lookup form₂ (code-after 12 second))) (0 ∷ 1 ∷ 7 ∷ 1 ∷ 3 ∷ 9 ∷ [])
@@ -279,11 +297,11 @@ rows two-pages second third =
     ∷ row (grouped form₂ (5 ∷ 0 ∷ 1 ∷ 0xFF ∷ 0xFF ∷ 2 ∷ []) second) (5 ∷ 0 ∷ 0 ∷ [])
     -- Of 1 at 5: 6 steps, finished; and again: none.
     ∷ row (grouped form₂ (5 ∷ 0 ∷ 1 ∷ []) second) (0 ∷ 6 ∷ 1 ∷ [])
-    ∷ row (grouped form₂ (5 ∷ 0 ∷ 1 ∷ []) (write form₂ (group-of (5 ∷ 0 ∷ 1 ∷ [])) 65535 second .image)) (0 ∷ 0 ∷ 1 ∷ [])
+    ∷ row (grouped form₂ (5 ∷ 0 ∷ 1 ∷ []) (write form₂ handset (group-of (5 ∷ 0 ∷ 1 ∷ [])) 65535 second .image)) (0 ∷ 0 ∷ 1 ∷ [])
     -- With page 1 of the first edition the store is of the second still: UNCLEAN, and a read is NOT HELD.
     ∷ row (map edition-in (two-pages ∷ second ∷ mixed two-pages second ∷ [])) (1 ∷ 2 ∷ 2 ∷ [])
     ∷ row (grouped form₂ (5 ∷ 0 ∷ 1 ∷ []) (mixed two-pages second)) (4 ∷ 0 ∷ 0 ∷ [])
-    ∷ row (said (read form₂ 5 (mixed two-pages second))) (8 ∷ 0 ∷ [])
+    ∷ row (said (read form₂ handset 5 (mixed two-pages second))) (8 ∷ 0 ∷ [])
     -- X14. The larger chip: a page has 2,048 bytes; wear 1; a mark that opens 4
     ∷ row (map size (form₁ ∷ form₂ ∷ form₃ ∷ [])) (1024 ∷ 1024 ∷ 2048 ∷ [])
     ∷ row (bytes (wear-word 3 1)) (0x01 ∷ 0x00 ∷ 0x03 ∷ 0x15 ∷ [])
@@ -296,14 +314,37 @@ rows two-pages second third =
     ∷ row (numbers 2048 (empty-flash 4096)) (0 ∷ 2 ∷ 2 ∷ 2 ∷ 2 ∷ 2 ∷ [])
     ∷ row (numbers 1024 (empty-flash 4096)) (0 ∷ 2 ∷ 2 ∷ 2 ∷ 2 ∷ 2 ∷ [])
     -- a group of 1 at 5: 6 steps, and the record stands in slot 1; in the last slot, 508, at byte 2,044, a record is found too
-    ∷ row (did (write-at 2048 (group-of (5 ∷ 0 ∷ 65 ∷ [])) 65535 third)) (0 ∷ 6 ∷ 1 ∷ [])
-    ∷ row (bytes-at 16 4 (write-at 2048 (group-of (5 ∷ 0 ∷ 65 ∷ [])) 65535 third .image)) (0x05 ∷ 0x00 ∷ 0x41 ∷ 0x14 ∷ [])
-    ∷ row (said (read-at 2048 5 (with-word 2044 A third))) (0 ∷ 65 ∷ [])
+    ∷ row (did (write-at 2048 false (group-of (5 ∷ 0 ∷ 65 ∷ [])) 65535 third)) (0 ∷ 6 ∷ 1 ∷ [])
+    ∷ row (bytes-at 16 4 (write-at 2048 false (group-of (5 ∷ 0 ∷ 65 ∷ [])) 65535 third .image)) (0x05 ∷ 0x00 ∷ 0x41 ∷ 0x14 ∷ [])
+    ∷ row (said (read-at 2048 false 5 (with-word 2044 A third))) (0 ∷ 65 ∷ [])
     -- At 1,024 its pages are bad: NO STORE. With the records (1, 1) and (1, 0) in the slots 253 and 254, which pass for the header of an
     -- open page there, 5 is NOT HELD at 1,024, and 1 is 0 at 2,048.
-    ∷ row (said (read-at 1024 5 third)) (2 ∷ 0 ∷ [])
-    ∷ row (said (read-at 1024 5 (with-word 1028 (record-word 1 0) (with-word 1024 (record-word 1 1) third)))) (8 ∷ 0 ∷ [])
-    ∷ row (said (read-at 2048 1 (with-word 1028 (record-word 1 0) (with-word 1024 (record-word 1 1) third)))) (0 ∷ 0 ∷ [])
+    ∷ row (said (read-at 1024 false 5 third)) (2 ∷ 0 ∷ [])
+    ∷ row (said (read-at 1024 false 5 (with-word 1028 (record-word 1 0) (with-word 1024 (record-word 1 1) third)))) (8 ∷ 0 ∷ [])
+    ∷ row (said (read-at 2048 false 1 (with-word 1028 (record-word 1 0) (with-word 1024 (record-word 1 1) third)))) (0 ∷ 0 ∷ [])
+    -- X15. The two owners: a read and a blank read by the handset of 32,767, 32,768 and 65,535; by the timer
+    ∷ row (reads-of handset 32767 second) (8 ∷ 0 ∷ 0 ∷ 0 ∷ [])
+    ∷ row (reads-of handset 32768 second) (11 ∷ 0 ∷ 11 ∷ 0 ∷ [])
+    ∷ row (reads-of handset 65535 second) (5 ∷ 0 ∷ 5 ∷ 0 ∷ [])
+    ∷ row (reads-of timer 32767 second) (11 ∷ 0 ∷ 11 ∷ 0 ∷ [])
+    ∷ row (reads-of timer 32768 second) (8 ∷ 0 ∷ 0 ∷ 0 ∷ [])
+    ∷ row (reads-of timer 65535 second) (5 ∷ 0 ∷ 5 ∷ 0 ∷ [])
+    -- of 1 at 5 by the handset: 2 steps; then by the timer, though 5 has that value: OWNER
+    ∷ row (write-of handset 5 1 second) (0 ∷ 2 ∷ 1 ∷ [])
+    ∷ row (write-of timer 5 1 (write form₂ handset (single 5 1) 65535 second .image)) (11 ∷ 0 ∷ 0 ∷ [])
+    -- groups of the handset: with 32,768, OWNER; with 65,535 too, ADDRESS
+    ∷ row (grouped form₂ (5 ∷ 0 ∷ 1 ∷ 0 ∷ 0x80 ∷ 1 ∷ []) second) (11 ∷ 0 ∷ 0 ∷ [])
+    ∷ row (grouped form₂ (5 ∷ 0 ∷ 1 ∷ 0 ∷ 0x80 ∷ 1 ∷ 0xFF ∷ 0xFF ∷ 1 ∷ []) second) (5 ∷ 0 ∷ 0 ∷ [])
+    -- where 127 of the handset's are held, 0 to 126: one more, a second, two in a group; one of the timer's
+    ∷ row (told-by handset (filled 0 127) (single 127 1) ∷ []) (0 ∷ [])
+    ∷ row (told-by handset (filled 0 128) (single 128 1) ∷ []) (6 ∷ [])
+    ∷ row (told-by handset (filled 0 127) (group-of (0x7F ∷ 0 ∷ 1 ∷ 0x80 ∷ 0 ∷ 1 ∷ [])) ∷ []) (6 ∷ [])
+    ∷ row (told-by timer (filled 0 128) (single 32768 1) ∷ []) (0 ∷ [])
+    -- where 130 are held: another value of one, and that beside a new address
+    ∷ row (told-by handset (filled 0 130) (single 5 2) ∷ []) (0 ∷ [])
+    ∷ row (told-by handset (filled 0 130) (group-of (5 ∷ 0 ∷ 2 ∷ 0xFF ∷ 0 ∷ 1 ∷ [])) ∷ []) (6 ∷ [])
+    -- where 128 of the handset's and 64 of the timer's are held: a new one of the timer's
+    ∷ row (told-by timer (filled 0 128 ++ filled 32768 64) (single 40000 1) ∷ []) (6 ∷ [])
     ∷ []
 
 unfoldable pub table : List Row

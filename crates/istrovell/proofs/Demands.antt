@@ -1,8 +1,9 @@
 -- The three demands hold of the exported calls. Assumes nothing.
 use Prim.Native.Nat.{ℕ, _+_, _*_}
 use mathlib.Core.Path.{_≡_, refl, sym, ap, ap₂, _∙_}
+use mathlib.Core.Logic.{inl, inr}
 use mathlib.Core.Bool.{Bool, true, false, cond}
-use mathlib.Core.List.{List, [], _∷_}
+use mathlib.Core.List.{List}
 use mathlib.Core.Option.{Option, none, some, Option·some-injective}
 use native.Mathlib.Omega.{arith}
 use lib.ListN.{length, getD, take}
@@ -10,8 +11,9 @@ use lib.Dec.{eqb, leb}
 use borrow.Author.Tests.{eqb-true, eqb-false, le-leb}
 use Rattle.rules.specs.Flash.{Step, run}
 use Rattle.rules.specs.Page.{Form, size, Chip, in-edition}
-use Rattle.rules.specs.Store.{Setting, setting, value, or-value}
+use Rattle.rules.specs.Store.{value, or-value}
 use Rattle.rules.specs.Steps.{format-steps, Change, single, group, settings-of}
+use Rattle.rules.specs.Owner.{Owner, anyone, named-owner}
 use Rattle.rules.specs.Call.{RoomyChip, form-of, has-edition, page-count, wrong-size, store-number, write-number, read-number, blank-read-number, OK}
 use Rattle.rules.specs.Call.{SIZE, Stepped, Reading, Pairing, Formatted, format, group-of, stepped, recover, write, pages, read, blank-value, blank-read}
 use Rattle.rules.specs.Call.{refused-steps, refused-reading, refused-lookup, reading, code, pairing, lookup}
@@ -22,14 +24,15 @@ use Rattle.rules.proofs.Named.{named-roomy, format-named, recover-named, write-
 use Rattle.rules.proofs.Lengths.{format-long}
 use Rattle.promise.specs.Calls.{Question, value-at, blank-value-at, pairing-code, Answer, finds, EachOf, answer, Obeys}
 use Rattle.promise.specs.History.{recovery-of, write-of}
-use Rattle.promise.proofs.Kept.{called-number, kept}
+use Rattle.promise.proofs.Answers.{each-map₂, each-owned}
+use Rattle.promise.proofs.Kept.{called-number, passed, kept}
 use Rattle.promise.proofs.Counts.{not-longer}
 use Rattle.reading.specs.declared.Reading.{Reading as Read}
 use Rattle.reading.specs.declared.Pairing.{Pairing as Pair}
 use Rattle.reading.specs.Answers.{as-reading, as-pairing}
 use Rattle.writing.specs.declared.Stepped.{Stepped as Done}
 use Rattle.writing.specs.Answers.{as-stepped}
-use Rattle.istrovell.specs.Demands.{Formats, Reads, Unchanged, Gives, Did, formatted, wrote, replies, all-naming}
+use Rattle.istrovell.specs.Demands.{Formats, Reads, Unchanged, Gives, Did, formatted, wrote, wrote-as, replies, all-naming}
 use Rattle.istrovell.specs.Demands.{every-call-answers-by-number}
 use Rattle.istrovell.specs.Demands.{only-one-outcome, every-step-follows-the-rules, a-store-keeps-its-word, every-question-is-answered}
 
@@ -103,14 +106,15 @@ module _ (i : List ℕ) where
   no-code r h = let e = ap (λ (q : Pairing). q .number) h in (e, λ ne. h ∙ ap refused-lookup (sym e))
 
   -- of a single setting or of a group
-  write-number-is : (P : ℕ) (c : Change) (n : ℕ) (r : Done) (j : List ℕ) → as-stepped r j ≡ write-at P c n i
-      → (r .number ≡ number-at P (λ f. write-number f c) i) × Unchanged i r j
+  write-number-is : (P : ℕ) (timer : Bool) (c : Change) (n : ℕ) (r : Done) (j : List ℕ) → as-stepped r j ≡ write-at P timer c n i
+      → (r .number ≡ number-at P (λ f. write-number f (named-owner timer) c) i) × Unchanged i r j
   unfolding write
-  write-number-is P c n r j =
+  write-number-is P timer c n r j =
       at-chip (λ k. (r .number ≡ k) × Unchanged i r j) (chip-of P) (no-steps r j)
       (λ chip h.
       let fm = form-of chip i in
-      (its-number (write-number fm c i) n (write-of fm c i) i r j fm h, its-refusal (write-number fm c i) n (write-of fm c i) i r j fm h))
+      let k = write-number fm (named-owner timer) c i in
+      (its-number k n (write-of fm c i) i r j fm h, its-refusal k n (write-of fm c i) i r j fm h))
 
 pub answers-by-number : every-call-answers-by-number
 unfolding recover read blank-read
@@ -125,14 +129,14 @@ answers-by-number P i =
           (λ chip h.
           let fm = form-of chip i in
           (its-number (store-number fm i) n (recovery-of fm i) i r j fm h, its-refusal (store-number fm i) n (recovery-of fm i) i r j fm h));
-      writes = λ a v n r j h. write-number-is i P (single a v) n r j h;
-      writes-group = λ b n r j h. write-number-is i P (group-of b) n r j h;
-      reads = λ a r.
+      writes = λ m a v n r j h. write-number-is i P m (single a v) n r j h;
+      writes-group = λ m b n r j h. write-number-is i P m (group-of b) n r j h;
+      reads = λ m a r.
           at-chip (λ k. (r .number ≡ k) × ((r .number ≡ OK → ⊥) → r .value ≡ 0)) (chip-of P) (no-value i r)
-          (λ chip h. let fm = form-of chip i in read-so (read-number fm a i) (or-value (value a (pages fm i)) 0) r h);
-      blank-reads = λ a r.
+          (λ chip h. let fm = form-of chip i in read-so (read-number fm (named-owner m) a i) (or-value (value a (pages fm i)) 0) r h);
+      blank-reads = λ m a r.
           at-chip (λ k. (r .number ≡ k) × ((r .number ≡ OK → ⊥) → r .value ≡ 0)) (chip-of P) (no-value i r)
-          (λ chip h. let fm = form-of chip i in read-so (blank-read-number fm a i) (blank-value (value a (pages fm i))) r h);
+          (λ chip h. let fm = form-of chip i in read-so (blank-read-number fm (named-owner m) a i) (blank-value (value a (pages fm i))) r h);
       looks = λ r.
           at-chip (λ k. (r .number ≡ k) × ((r .number ≡ OK → ⊥) → as-pairing r ≡ refused-lookup (r .number))) (chip-of P) (no-code i r)
           (λ chip h. look-number i (form-of chip i) r h);
@@ -150,7 +154,7 @@ same-stepped r s j k h = (ap to h, ap (λ (x : Stepped). x .image) h)
 abbrev read-of : Reading → Read
 read-of x = record { number = x .number; value = x .value }
 
-same-reading : (r s : Read) → as-reading r ≡ as-reading s → r ≡ s
+pub same-reading : (r s : Read) → as-reading r ≡ as-reading s → r ≡ s
 same-reading r s h = ap read-of h
 
 abbrev pair-of : Pairing → Pair
@@ -172,10 +176,10 @@ one-outcome P i =
     record {
       formats = λ second r s j k h g. (h .0 ∙ sym (g .0), h .1 ∙ sym (g .1));
       recovers = λ n r s j k h g. same-stepped r s j k (h ∙ sym g);
-      writes = λ a v n r s j k h g. same-stepped r s j k (h ∙ sym g);
-      writes-group = λ b n r s j k h g. same-stepped r s j k (h ∙ sym g);
-      reads = λ a r s h g. same-reading r s (h ∙ sym g);
-      blank-reads = λ a r s h g. same-reading r s (h ∙ sym g);
+      writes = λ m a v n r s j k h g. same-stepped r s j k (h ∙ sym g);
+      writes-group = λ m b n r s j k h g. same-stepped r s j k (h ∙ sym g);
+      reads = λ m a r s h g. same-reading r s (h ∙ sym g);
+      blank-reads = λ m a r s h g. same-reading r s (h ∙ sym g);
       looks = λ r s h g. same-pairing r s (h ∙ sym g);
     }
 
@@ -188,7 +192,7 @@ told-had chip roomy false = and-both (le-leb (chip .first) (chip .first) (omega 
 
 -- the calls that name a page size are those of its chip
 module _ (P : ℕ) (chip : Chip) (named : chip-of P ≡ some chip) where
-  obey : Obeys chip (all-naming P)
+  pub obey : Obeys chip (all-naming P)
   unfolding answer
   obey = record { formats = formats; recovers = λ n i s h. h .2 ∙ h .1 ∙ recover-named P chip named i n; writes = writes; answers = answers }
     where
@@ -201,13 +205,20 @@ module _ (P : ℕ) (chip : Chip) (named : chip-of P ≡ some chip) where
             as-formatted (h .4) ∙ format-named P chip named i second ∙ ap (λ (x : ℕ). format (in-edition chip x) i) (sym is),
           )
 
-      writes : (c : Change) (n : ℕ) (i : List ℕ) (s : Stepped) → wrote P c n i s → s ≡ write (form-of chip i) c n i
-      writes (single a v) n i s h = h .2 ∙ h .1 ∙ write-named P chip named i (single a v) n
-      writes (group rs) n i s h = h .4 ∙ h .3 ∙ ap (λ (c : Change). write-at P c n i) (h .2) ∙ write-named P chip named i (group rs) n
+      by-one : (m : Bool) (c : Change) (n : ℕ) (i : List ℕ) (s : Stepped) → wrote P m c n i s → s ≡ write (form-of chip i) (named-owner m) c n i
+      by-one m (single a v) n i s h = h .2 ∙ h .1 ∙ write-named P chip named i m (single a v) n
+      by-one m (group rs) n i s h = h .4 ∙ h .3 ∙ ap (λ (c : Change). write-at P m c n i) (h .2) ∙ write-named P chip named i m (group rs) n
+
+      writes : (o : Owner) (c : Change) (n : ℕ) (i : List ℕ) (s : Stepped) → wrote-as P o c n i s → s ≡ write (form-of chip i) o c n i
+      writes o c n i s (inl h) = by-one (h .0) c n i s (h .2) ∙ ap (λ (p : Owner). write (form-of chip i) p c n i) (sym (h .1))
+      writes o c n i s (inr h) =
+          h .1 .2
+          ∙ ap (λ (d : Chip). write (form-of d i) anyone c n i) (Option·some-injective (h .1 .0) chip (sym (h .1 .1) ∙ named))
+          ∙ ap (λ (p : Owner). write (form-of chip i) p c n i) (sym (h .0))
 
       answers : (q : Question) (i : List ℕ) (r : Answer q) → replies P q i r → r ≡ answer (form-of chip i) q i
-      answers (value-at x) i r h = h .2 ∙ h .1 ∙ read-named P chip named i x
-      answers (blank-value-at x) i r h = h .2 ∙ h .1 ∙ blank-read-named P chip named i x
+      answers (value-at m x) i r h = h .2 ∙ h .1 ∙ read-named P chip named i m x
+      answers (blank-value-at m x) i r h = h .2 ∙ h .1 ∙ blank-read-named P chip named i m x
       answers pairing-code i r h = h .2 ∙ h .1 ∙ lookup-named P chip named i
 
 pub keeps-its-word : a-store-keeps-its-word
@@ -230,36 +241,43 @@ pub answered : every-question-is-answered
 answered P i = (given, each)
   where
     given : (q : Question) → Answer q
-    given (value-at x) = read-at P x i
-    given (blank-value-at x) = blank-read-at P x i
+    given (value-at m x) = read-at P m x i
+    given (blank-value-at m x) = blank-read-at P m x i
     given pairing-code = lookup-at P i
 
     each : (q : Question) → replies P q i (given q)
-    each (value-at x) = (read-of (read-at P x i), refl, refl)
-    each (blank-value-at x) = (read-of (blank-read-at P x i), refl, refl)
+    each (value-at m x) = (read-of (read-at P m x i), refl, refl)
+    each (blank-value-at m x) = (read-of (blank-read-at P m x i), refl, refl)
     each pairing-code = (pair-of (lookup-at P i), four-at (chip-of P) i, sym (four-at (chip-of P) i))
 
 -- ---- demand 2
 
--- what is found at each address of a list, told of the rules' readings, is so of the code's
-gives-each : (P : ℕ) (j : List ℕ) (rs : List Setting) → EachOf (λ a v. (r : Reading) → replies P (value-at a) j r → r ≡ finds v) rs
-    → EachOf (λ a v. (q : Read) → Reads P a j q → Gives q v) rs
-unfolding EachOf
-gives-each P j [] h = tt
-gives-each P j (setting a v ∷ rs) h =
-    (λ q g. let e = h .0 (as-reading q) (q, g, refl) in (ap (λ (x : Reading). x .number) e, ap (λ (x : Reading). x .value) e), gives-each P j rs (h .1))
+-- what its owner finds at an address, told of the rules' readings, is so of the code's
+gives : (P : ℕ) (timer : Bool) (j : List ℕ) (a v : ℕ)
+    → ((m : Bool) → named-owner m .owns a ≡ true → (r : Reading) → replies P (value-at m a) j r → r ≡ finds v)
+    → named-owner timer .owns a ≡ true → (q : Read) → Reads P timer a j q → Gives q v
+gives P timer j a v found own q g =
+    let e = found timer own (as-reading q) (q, g, refl) in
+    (ap (λ (x : Reading). x .number) e, ap (λ (x : Reading). x .value) e)
 
-module _ (P : ℕ) (chip : Chip) (named : chip-of P ≡ some chip) (i : List ℕ) where
-  did : (c : Change) (n : ℕ) (r : Done) (j : List ℕ) → as-stepped r j ≡ write-at P c n i → r .number ≡ OK → Did (form-of chip i) c n i r j
+module _ (P : ℕ) (chip : Chip) (named : chip-of P ≡ some chip) (i : List ℕ) (timer : Bool) where
+  did : (c : Change) (n : ℕ) (r : Done) (j : List ℕ) → as-stepped r j ≡ write-at P timer c n i → r .number ≡ OK → Did (form-of chip i) c n i r j
   unfolding write
   did c n r j h =
       let fm = form-of chip i in
-      its-steps (write-number fm c i) n (write-of fm c i) i r j fm (h ∙ write-named P chip named i c n)
+      its-steps (write-number fm (named-owner timer) c i) n (write-of fm c i) i r j fm (h ∙ write-named P chip named i timer c n)
 
-  found : (c : Change) (n : ℕ) (r : Done) (j : List ℕ) → wrote P c n i (as-stepped r j) → r .number ≡ OK → r .finished ≡ true
-      → EachOf (λ a v. (q : Read) → Reads P a j q → Gives q v) (settings-of c)
-  found c n r j h ok fin = gives-each P j (settings-of c) (keeps-its-word P chip named .finds-what-is-written i c n (as-stepped r j) h ok fin .there)
+  found : (c : Change) (n : ℕ) (r : Done) (j : List ℕ) → wrote P timer c n i (as-stepped r j) → r .number ≡ OK → r .finished ≡ true
+      → EachOf (λ a v. (q : Read) → Reads P timer a j q → Gives q v) (settings-of c)
+  found c n r j h ok fin =
+      let o = named-owner timer in
+      let s = as-stepped r j in
+      let x : wrote-as P o c n i s = inl (timer, refl, h) in
+      let owned = passed chip (named-roomy P chip named) (all-naming P) (obey P chip named) i o c n s x ok fin .owned in
+      each-map₂ (gives P timer j) (settings-of c) (keeps-its-word P chip named .finds-what-is-written i o c n s x ok fin .there)
+      (each-owned o (settings-of c) owned)
 
+module _ (P : ℕ) (chip : Chip) (named : chip-of P ≡ some chip) (i : List ℕ) where
   format-steps-are : (second : Bool) (r : ℕ) (j : List ℕ) → Formats P second i r j → r ≡ OK
       → let fm = told-form chip second in
       let ss = format-steps (fm .edition) (page-count fm i) in
@@ -277,9 +295,9 @@ follows-the-rules P chip named i =
     record {
       formats = format-steps-are P chip named i;
       recovers = λ n r j h. its-steps (store-number fm i) n (recovery-of fm i) i r j fm (h ∙ recover-named P chip named i n);
-      writes = λ a v n r j h. did P chip named i (single a v) n r j h;
-      writes-group = λ b n r j h. did P chip named i (group-of b) n r j h;
+      writes = λ m a v n r j h. did P chip named i m (single a v) n r j h;
+      writes-group = λ m b n r j h. did P chip named i m (group-of b) n r j h;
       longest = not-longer fm i;
-      finds = λ a v n r j h ok fin. found P chip named i (single a v) n r j (r, h, refl) ok fin .0;
-      finds-each = λ b n r j h ok fin. found P chip named i (group-of b) n r j (b, r, refl, h, refl) ok fin;
+      finds = λ m a v n r j h ok fin. found P chip named i m (single a v) n r j (r, h, refl) ok fin .0;
+      finds-each = λ m b n r j h ok fin. found P chip named i m (group-of b) n r j (b, r, refl, h, refl) ok fin;
     }

@@ -1,2 +1,3 @@
--- The demands of the exported calls.
+-- The demands of the exported calls, and what their two owners are promised.
 pub mod Demands
+pub mod Owners

@@ -1,4 +1,4 @@
-// The library for C and Rust: the seven calls under their exported names. Each takes any image, any page size and any numbers, and
+// The library for C and Rust: the seven calls under their exported names. Each takes any image, any page size, either owner and any numbers, and
 // its contract fixes every answer and every byte of the image after it; include/istrovell.h tells a firmware engineer the same.
 use pages::Named;
 use reading::Pairing;
@@ -32,14 +32,15 @@ pub extern "C" fn istrovell_recover(image: &mut [u8], page_size: u16, allowance:
 pub extern "C" fn istrovell_write(
     image: &mut [u8],
     page_size: u16,
+    timer: bool,
     address: u16,
     value: u8,
     allowance: u16,
 ) -> Stepped
-    ensures { λ r. ⌜ Writes «page_size» address value allowance (now (image .entry)) r (now (image .exit)) ⌝ }
+    ensures { λ r. ⌜ Writes «page_size» timer address value allowance (now (image .entry)) r (now (image .exit)) ⌝ }
 {
     match survey::form_at(image, page_size) {
-        Sized::Right(form) => writing::write(image, form, address, value, allowance),
+        Sized::Right(form) => writing::write(image, form, timer, address, value, allowance),
         Sized::Wrong => writing::refused(SIZE),
     }
 }
@@ -48,33 +49,39 @@ pub extern "C" fn istrovell_write(
 pub extern "C" fn istrovell_write_group(
     image: &mut [u8],
     page_size: u16,
+    timer: bool,
     group: &[u8],
     allowance: u16,
 ) -> Stepped
-    ensures { λ r. ⌜ WritesGroup «page_size» (now (group .entry)) allowance (now (image .entry)) r (now (image .exit)) ⌝ }
+    ensures { λ r. ⌜ WritesGroup «page_size» timer (now (group .entry)) allowance (now (image .entry)) r (now (image .exit)) ⌝ }
 {
     match survey::form_at(image, page_size) {
-        Sized::Right(form) => writing::write_group(image, form, group, allowance),
+        Sized::Right(form) => writing::write_group(image, form, timer, group, allowance),
         Sized::Wrong => writing::refused(SIZE),
     }
 }
 
 #[no_mangle]
-pub extern "C" fn istrovell_read(image: &[u8], page_size: u16, address: u16) -> Reading
-    ensures { λ r. ⌜ Reads «page_size» address (now (image .entry)) r ⌝ }
+pub extern "C" fn istrovell_read(image: &[u8], page_size: u16, timer: bool, address: u16) -> Reading
+    ensures { λ r. ⌜ Reads «page_size» timer address (now (image .entry)) r ⌝ }
 {
     match survey::form_at(image, page_size) {
-        Sized::Right(form) => reading::read(image, form, address),
+        Sized::Right(form) => reading::read(image, form, timer, address),
         Sized::Wrong => reading::refused(SIZE),
     }
 }
 
 #[no_mangle]
-pub extern "C" fn istrovell_blank_read(image: &[u8], page_size: u16, address: u16) -> Reading
-    ensures { λ r. ⌜ BlankReads «page_size» address (now (image .entry)) r ⌝ }
+pub extern "C" fn istrovell_blank_read(
+    image: &[u8],
+    page_size: u16,
+    timer: bool,
+    address: u16,
+) -> Reading
+    ensures { λ r. ⌜ BlankReads «page_size» timer address (now (image .entry)) r ⌝ }
 {
     match survey::form_at(image, page_size) {
-        Sized::Right(form) => reading::blank_read(image, form, address),
+        Sized::Right(form) => reading::blank_read(image, form, timer, address),
         Sized::Wrong => reading::refused(SIZE),
     }
 }

@@ -1,44 +1,48 @@
 -- What an image with a good store answers, by its values alone. Assumes nothing.
 use Prim.Native.Nat.{ℕ, _≤_}
 use mathlib.Core.Path.{_≡_, refl, ap, _∙_}
-use mathlib.Core.Bool.{true, false, cond, not}
+use mathlib.Core.Bool.{Bool, true, false, cond, not, _||_}
 use mathlib.Core.List.{List, [], _∷_, map}
 use mathlib.Core.Option.{Option, none, some}
 use native.Mathlib.Omega.{arith}
 use lib.ListN.{length}
 use lib.Dec.{eqb}
-use borrow.Author.Tests.{eqb-true, eqb-false}
+use borrow.Author.Tests.{eqb-true, eqb-false, le-leb, not-false}
 use Rattle.rules.specs.Page.{Form}
 use Rattle.rules.specs.Store.{value, or-value, Setting, setting, address-of, or-else, last-of}
 use Rattle.rules.specs.Steps.{Change, settings-of, words-of, all-values}
-use Rattle.rules.specs.Call.{pages, is-unclean, wrong-group, wrong-address, a-wrong-address, is-held, no-room, order-end, first-of, store-number}
+use Rattle.rules.specs.Owner.{Owner, handset, named-owner, a-foreign}
+use Rattle.rules.specs.Call.{pages, is-unclean, wrong-group, wrong-address, a-wrong-address, is-held, no-room, crowded, order-end, first-of, store-number}
 use Rattle.rules.specs.Call.{write-number, accepted, blank-value, code, all-held, pairing, reading, read, blank-read, lookup, OK, NO-STORE, DAMAGED}
-use Rattle.rules.specs.Call.{UNCLEAN, GROUP, ADDRESS, NO-ROOM, ORDER-END, NOT-HELD, Pairing, row, among, repeats}
+use Rattle.rules.specs.Call.{UNCLEAN, GROUP, ADDRESS, OWNER, NO-ROOM, ORDER-END, Pairing, row, among, repeats}
 use Rattle.rules.proofs.Truth.{and-left, and-right, and-both, by-cases, or-false-left, or-false-right}
 use Rattle.rules.proofs.Settings.{or-else-assoc, last-of-first, last-of-rest}
 use Rattle.rules.proofs.Answers.{other-address, same-code, lookup-done}
-use Rattle.rules.proofs.Rows.{numbers, not-given, then, blank-read-goes-on, read-goes-on, write-goes-on}
+use Rattle.rules.proofs.Rows.{may-give, not-given, then, address-rows, held-row, blank-read-goes-on, read-goes-on, write-goes-on}
 use Rattle.rules.proofs.Good.{changed}
 use Rattle.rules.proofs.Healthy.{Healthy, value-here, store-ok}
-use Rattle.promise.specs.Calls.{Image, Question, value-at, blank-value-at, pairing-code, Answer, AsksNone, EachAnswer, found-value, with-value}
-use Rattle.promise.specs.Calls.{with-values, EachOf, finds, answer}
+use Rattle.promise.specs.Calls.{Image, Question, value-at, blank-value-at, pairing-code, Answer, AsksNone, EachAnswer, found-value, its-own}
+use Rattle.promise.specs.Calls.{with-value, with-values, EachOf, finds, answer}
+use Rattle.promise.specs.Owners.{AsksAs, reads, blank-reads}
 
 -- by the values, an address not held having none
-read-by : (address : ℕ) → Option ℕ → Answer (value-at address)
-read-by x o = reading (then (cond (wrong-address x) ADDRESS OK) (cond (not (is-held o)) NOT-HELD OK)) (or-value o 0)
+read-by : (timer : Bool) (address : ℕ) → Option ℕ → Answer (value-at timer address)
+read-by m x o = reading (then (first-of (address-rows (named-owner m) x)) (first-of (held-row o))) (or-value o 0)
 
-blank-read-by : (address : ℕ) → Option ℕ → Answer (blank-value-at address)
-blank-read-by x o = reading (cond (wrong-address x) ADDRESS OK) (blank-value o)
+blank-read-by : (timer : Bool) (address : ℕ) → Option ℕ → Answer (blank-value-at timer address)
+blank-read-by m x o = reading (first-of (address-rows (named-owner m) x)) (blank-value o)
 
 pub answer-by : (ℕ → Option ℕ) → EachAnswer
-answer-by t (value-at x) = read-by x (t x)
-answer-by t (blank-value-at x) = blank-read-by x (t x)
+answer-by t (value-at m x) = read-by m x (t x)
+answer-by t (blank-value-at m x) = blank-read-by m x (t x)
 answer-by t pairing-code = pairing (code t)
 
 pub answers-are : {fm : Form} {May One : Type 0} {t : ℕ → Option ℕ} {i : Image} → Healthy fm May One t i → (q : Question) → answer fm q i ≡ answer-by t q
 unfolding answer answer-by read-by blank-read-by read blank-read then accepted
-answers-are {fm = fm} {i = i} h (value-at x) = rw (read-goes-on fm i x, blank-read-goes-on fm i x, value-here h x, store-ok h)
-answers-are {fm = fm} {i = i} h (blank-value-at x) = rw (blank-read-goes-on fm i x, value-here h x, store-ok h)
+answers-are {fm = fm} {i = i} h (value-at m x) =
+    let o = named-owner m in
+    rw (read-goes-on fm i o x, blank-read-goes-on fm i o x, value-here h x, store-ok h)
+answers-are {fm = fm} {i = i} h (blank-value-at m x) = rw (blank-read-goes-on fm i (named-owner m) x, value-here h x, store-ok h)
 answers-are {fm = fm} {t = t} {i = i} h pairing-code =
     lookup-done fm i (store-ok h) ∙ ap pairing (same-code (λ x. value x (pages fm i)) t (λ x l m. value-here h x))
 
@@ -51,18 +55,33 @@ pub paired-if : {fm : Form} {May One : Type 0} {t : ℕ → Option ℕ} {i : Ima
 unfolding pairing
 paired-if h = ap (λ (r : Pairing). r .paired) (lookup-is h)
 
+-- a digit is the handset's
+digit-own : (x : ℕ) → x ≤ 19 → handset .owns x ≡ true
+digit-own x l = le-leb x 32767 (omega arith)
+
 -- what a read of a digit finds is what is held
-digit-found : (x : ℕ) → x ≤ 19 → (o : Option ℕ) → found-value (read-by x o) ≡ o
-unfolding found-value read-by reading then accepted is-held or-value
-digit-found x l none = rw (other-address x (omega arith))
-digit-found x l (some v) = rw (other-address x (omega arith))
+digit-found : (x : ℕ) → x ≤ 19 → (o : Option ℕ) → found-value (read-by false x o) ≡ o
+unfolding found-value read-by reading then accepted is-held or-value first-of
+digit-found x l none = rw (other-address x (omega arith), digit-own x l)
+digit-found x l (some v) = rw (other-address x (omega arith), digit-own x l)
 
 -- what is asked of the same values answers the same
 same-by : (t u : ℕ → Option ℕ) → ((x : ℕ) → t x ≡ u x) → (q : Question) → answer-by t q ≡ answer-by u q
 unfolding answer-by
-same-by t u e (value-at x) = ap (read-by x) (e x)
-same-by t u e (blank-value-at x) = ap (blank-read-by x) (e x)
+same-by t u e (value-at m x) = ap (read-by m x) (e x)
+same-by t u e (blank-value-at m x) = ap (blank-read-by m x) (e x)
 same-by t u e pairing-code = ap pairing (same-code t u (λ x l m. e x))
+
+-- what one of the two asks is answered by the values of its own addresses
+pub own-only : (timer : Bool) (t u : ℕ → Option ℕ) → ((x : ℕ) → named-owner timer .owns x ≡ true → t x ≡ u x) → (q : Question) → AsksAs timer q
+    → answer-by t q ≡ answer-by u q
+unfolding answer-by read-by blank-read-by reading then accepted first-of
+own-only m t u e q (reads x) =
+    by-cases (wrong-address x) (λ w. rw w)
+    (λ w. by-cases (named-owner m .owns x) (λ o. ap (read-by m x) (e x o)) (λ o. rw (w, o)))
+own-only m t u e q (blank-reads x) =
+    by-cases (wrong-address x) (λ w. rw w)
+    (λ w. by-cases (named-owner m .owns x) (λ o. ap (blank-read-by m x) (e x o)) (λ o. rw (w, o)))
 
 -- ---- the answers with v at a
 
@@ -70,18 +89,20 @@ same-by t u e pairing-code = ap pairing (same-code t u (λ x l m. e x))
 module _ (a v : ℕ) where
   one-given : (before given : EachAnswer) → ((q : Question) → before q ≡ given q) → (q : Question) → with-value a v before q ≡ with-value a v given q
   unfolding with-value
-  one-given before given e (value-at x) = rw (e (value-at x))
-  one-given before given e (blank-value-at x) = rw (e (blank-value-at x))
-  one-given before given e pairing-code = ap pairing (same-code _ _ (λ x l m. rw (e (value-at x))))
+  one-given before given e (value-at m x) = rw (e (value-at m x))
+  one-given before given e (blank-value-at m x) = rw (e (blank-value-at m x))
+  one-given before given e pairing-code = ap pairing (same-code _ _ (λ x l m. rw (e (value-at false x))))
 
   -- by the values
   abbrev with-one : (ℕ → Option ℕ) → ℕ → Option ℕ
   with-one t x = cond (eqb x a) (some v) (t x)
 
   one-changed : (t : ℕ → Option ℕ) → wrong-address a ≡ false → (q : Question) → answer-by (with-one t) q ≡ with-value a v (answer-by t) q
-  unfolding answer-by read-by blank-read-by reading with-value then accepted is-held or-value blank-value
-  one-changed t w (value-at x) = by-cases (eqb x a) (λ e. rw (e, eqb-true x a e, w)) (λ e. rw e)
-  one-changed t w (blank-value-at x) = by-cases (eqb x a) (λ e. rw (e, eqb-true x a e, w)) (λ e. rw e)
+  unfolding answer-by read-by blank-read-by reading with-value its-own then accepted is-held or-value blank-value first-of
+  one-changed t w (value-at m x) =
+      by-cases (eqb x a) (λ e. by-cases (named-owner m .owns a) (λ o. rw (e, eqb-true x a e, w, o)) (λ o. rw (e, eqb-true x a e, w, o))) (λ e. rw e)
+  one-changed t w (blank-value-at m x) =
+      by-cases (eqb x a) (λ e. by-cases (named-owner m .owns a) (λ o. rw (e, eqb-true x a e, w, o)) (λ o. rw (e, eqb-true x a e, w, o))) (λ e. rw e)
   one-changed t w pairing-code = ap pairing (same-code _ _ (λ x l m. rw (digit-found x m (t x))))
 
 -- ---- with all of a list of settings
@@ -121,8 +142,8 @@ each-map f (setting a v ∷ rs) h = (f a v (h .0), each-map f rs (h .1))
 
 pub not-asked : (rs : List Setting) (t : ℕ → Option ℕ) (q : Question) → AsksNone q rs → answer-by (changed rs t) q ≡ answer-by t q
 unfolding answer-by or-else
-not-asked rs t (value-at x) h = ap (read-by x) (rw (none-last x rs h))
-not-asked rs t (blank-value-at x) h = ap (blank-read-by x) (rw (none-last x rs h))
+not-asked rs t (value-at m x) h = ap (read-by m x) (rw (none-last x rs h))
+not-asked rs t (blank-value-at m x) h = ap (blank-read-by m x) (rw (none-last x rs h))
 not-asked rs t pairing-code h =
     ap pairing (same-code _ t (λ x l m. rw (none-last x rs (each-map (λ a v no′ e. no′ (omega arith, omega arith)) rs h))))
 
@@ -140,7 +161,7 @@ each-last (setting a v ∷ rs) d = (
   each-map (λ b u e. rw e) rs (each-last rs (or-false-right (among a (map address-of rs)) _ d)),
 )
 
-each-map₂ : {P Q R : ℕ → ℕ → Type 0} → ((a v : ℕ) → P a v → Q a v → R a v) → (rs : List Setting) → EachOf P rs → EachOf Q rs → EachOf R rs
+pub each-map₂ : {P Q R : ℕ → ℕ → Type 0} → ((a v : ℕ) → P a v → Q a v → R a v) → (rs : List Setting) → EachOf P rs → EachOf Q rs → EachOf R rs
 unfolding EachOf
 each-map₂ f [] p q = tt
 each-map₂ f (setting a v ∷ rs) p q = (f a v (p .0) (q .0), each-map₂ f rs (p .1) (q .1))
@@ -150,13 +171,22 @@ unfolding EachOf a-wrong-address
 each-addressed [] w = tt
 each-addressed (setting a v ∷ rs) w = (or-false-left (wrong-address a) _ w, each-addressed rs (or-false-right (wrong-address a) _ w))
 
-one-found : (rs : List Setting) (t : ℕ → Option ℕ) (a v : ℕ) → last-of a rs ≡ some v → wrong-address a ≡ false
-    → answer-by (changed rs t) (value-at a) ≡ finds v
-unfolding answer-by read-by reading then accepted is-held or-value or-else
-one-found rs t a v last far = rw (last, far)
+pub each-owned : (o : Owner) (rs : List Setting) → a-foreign o rs ≡ false → EachOf (λ a v. o .owns a ≡ true) rs
+unfolding EachOf a-foreign
+each-owned o [] h = tt
+each-owned o (setting a v ∷ rs) h =
+    (not-false (o .owns a) (or-false-left (not (o .owns a)) _ h), each-owned o rs (or-false-right (not (o .owns a)) _ h))
+
+-- its owner asking
+abbrev Finds : (ℕ → Option ℕ) → (a v : ℕ) → Type 0
+Finds t a v = (timer : Bool) → named-owner timer .owns a ≡ true → answer-by t (value-at timer a) ≡ finds v
+
+one-found : (rs : List Setting) (t : ℕ → Option ℕ) (a v : ℕ) → last-of a rs ≡ some v → wrong-address a ≡ false → Finds (changed rs t) a v
+unfolding answer-by read-by reading then accepted is-held or-value or-else first-of
+one-found rs t a v last far m own = rw (last, far, own)
 
 pub each-found : (rs : List Setting) (t : ℕ → Option ℕ) → repeats (map address-of rs) ≡ false → a-wrong-address rs ≡ false
-    → EachOf (λ a v. answer-by (changed rs t) (value-at a) ≡ finds v) rs
+    → EachOf (Finds (changed rs t)) rs
 each-found rs t d w = each-map₂ (one-found rs t) rs (each-last rs d) (each-addressed rs w)
 
 -- all that were held are held still
@@ -173,12 +203,12 @@ still-held rs t = of (16 ∷ 17 ∷ 18 ∷ 19 ∷ [])
     of (x ∷ xs) h = and-both (one (last-of x rs) (t x) (and-left (is-held (t x)) _ h)) (of xs (and-right (is-held (t x)) _ h))
 
 -- a write of a clean store is not refused for the store's sake
-pub not-refused : (fm : Form) (c : Change) (i : Image) → store-number fm i ≡ OK → is-unclean (pages fm i) ≡ false
-    → let n = write-number fm c i in (n ≡ NO-STORE → ⊥) × (n ≡ DAMAGED → ⊥) × (n ≡ UNCLEAN → ⊥)
-unfolding then first-of numbers among
-not-refused fm c i ok clean =
+pub not-refused : (fm : Form) (o : Owner) (c : Change) (i : Image) → store-number fm i ≡ OK → is-unclean (pages fm i) ≡ false
+    → let n = write-number fm o c i in (n ≡ NO-STORE → ⊥) × (n ≡ DAMAGED → ⊥) × (n ≡ UNCLEAN → ⊥)
+unfolding then first-of may-give
+not-refused fm o c i ok clean =
     let ps = pages fm i in
     let rs = settings-of c in
-    let rest = row GROUP (wrong-group (fm .edition) c) ∷ row ADDRESS (a-wrong-address rs) ∷ row OK (all-values rs ps) ∷ row NO-ROOM (no-room rs ps)
-    ∷ row ORDER-END (order-end (length (words-of c)) ps) ∷ [] in
-    rw (write-goes-on fm i c, ok, clean) (not-given NO-STORE rest refl, not-given DAMAGED rest refl, not-given UNCLEAN rest refl)
+    let rest = row GROUP (wrong-group (fm .edition) c) ∷ row ADDRESS (a-wrong-address rs) ∷ row OWNER (a-foreign o rs) ∷ row OK (all-values rs ps)
+    ∷ row NO-ROOM (no-room rs ps || crowded o rs ps) ∷ row ORDER-END (order-end (length (words-of c)) ps) ∷ [] in
+    rw (write-goes-on fm i o c, ok, clean) (not-given NO-STORE rest refl, not-given DAMAGED rest refl, not-given UNCLEAN rest refl)

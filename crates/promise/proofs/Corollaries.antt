@@ -19,9 +19,10 @@ use Rattle.rules.specs.Store.{place-behind, records, each, journal, or-else, la
 use Rattle.rules.specs.Store.{active-slots, has-room, in-group, open-group, count, or-value}
 use Rattle.rules.specs.Steps.{Change, single, group, settings-of, words-of, way, way-steps, new-page, next-order, fill-steps, other, renew, renew-all}
 use Rattle.rules.specs.Steps.{format-steps, unclean, slots-steps, abandon-steps, recovery-steps, append-steps, is-value, all-values, write-steps}
+use Rattle.rules.specs.Owner.{handset, a-foreign, held-by}
 use Rattle.rules.specs.Call.{Formatted, Stepped, stepped, write, first-of, store-rows, blank-read-rows, read-rows, write-rows, RoomyChip}
 use Rattle.rules.specs.Call.{OK, cut, page-count, pages, own-edition, has-edition, opens-itself, edition-of, form-of, wrong-size, no-store, among, repeats}
-use Rattle.rules.specs.Call.{all-used, damaged, is-unclean, wrong-group, wrong-address, a-wrong-address, is-held, is-new, no-room, order-end}
+use Rattle.rules.specs.Call.{all-used, damaged, is-unclean, wrong-group, wrong-address, a-wrong-address, is-held, is-new, no-room, crowded, order-end}
 use Rattle.rules.specs.Call.{store-number, write-number, blank-read-number, read-number, accepted, format, reading, read, blank-value, code, all-held}
 use Rattle.rules.specs.Call.{pairing}
 use Rattle.rules.specs.Named.{smaller-chip, larger-chip}
@@ -43,12 +44,12 @@ use Rattle.promise.proofs.Answers.{lookup-is, paired-if, still-held}
 use Rattle.promise.proofs.Kept.{Well, in-use-healthy, either, form-stays, kept}
 
 obeyed : (chip : Chip) → Obeys chip (by-the-rules chip)
-obeyed chip = record { formats = λ e i f p. p; recovers = λ n i s e. e; writes = λ c n i s e. e; answers = λ q i r e. e }
+obeyed chip = record { formats = λ e i f p. p; recovers = λ n i s e. e; writes = λ o c n i s e. e; answers = λ q i r e. e }
 
 pub code-survives : the-code-survives
-code-survives chip roomy i u c n k x =
+code-survives chip roomy i u o c n k x =
     ⊎-elim (λ same. inl (same pairing-code)) (λ new. inr (new pairing-code))
-    (kept chip roomy (by-the-rules chip) (obeyed chip) .loses-nothing i u c .old-or-new x)
+    (kept chip roomy (by-the-rules chip) (obeyed chip) .loses-nothing i u o c .old-or-new x)
 
 holds : (chip : Chip) (roomy : RoomyChip chip) → {i : Image} → Used chip i
     → (t : ℕ → Option ℕ) × Well chip roomy (by-the-rules chip) (obeyed chip) t i
@@ -65,20 +66,20 @@ digits-given rs t d₀ d₁ d₂ d₃ all =
 
 pub never-half : never-half-a-code
 unfolding settings-of holds
-never-half chip roomy i u rs d₀ d₁ d₂ d₃ all n k x =
+never-half chip roomy i u rs d₀ d₁ d₂ d₃ all o n k x =
     let h = holds chip roomy u in
     ⊎-elim (λ g. inl (lookup-is g ∙ sym (lookup-is (h .1)))) (λ g. inr (lookup-is g ∙ digits-given rs (h .0) d₀ d₁ d₂ d₃ all))
-    (either chip roomy (by-the-rules chip) (obeyed chip) i u (group rs) x)
+    (either chip roomy (by-the-rules chip) (obeyed chip) i u o (group rs) x)
 
 pub stays-paired : a-paired-handset-stays-paired
 unfolding holds
-stays-paired chip roomy i u p c n k x =
+stays-paired chip roomy i u p o c n k x =
     let h = holds chip roomy u in
     let was = sym (paired-if (h .1)) ∙ p in
-    ⊎-elim (λ g. paired-if g ∙ was) (λ g. paired-if g ∙ still-held (settings-of c) (h .0) was) (either chip roomy (by-the-rules chip) (obeyed chip) i u c x)
+    ⊎-elim (λ g. paired-if g ∙ was) (λ g. paired-if g ∙ still-held (settings-of c) (h .0) was) (either chip roomy (by-the-rules chip) (obeyed chip) i u o c x)
 
 pub edition-stays : an-edition-stays
-edition-stays chip roomy i u c n k x = form-stays chip roomy (by-the-rules chip) (obeyed chip) i u c x
+edition-stays chip roomy i u o c n k x = form-stays chip roomy (by-the-rules chip) (obeyed chip) i u o c x
 
 pub differing : orders-differ
 differing chip roomy i u = apart-here (holds chip roomy u .1)
@@ -95,7 +96,7 @@ may-be-done fm roomy i =
     record {
       format-steps-may = format-allowed fm i;
       recovery-steps-may = λ ok. recovery-allowed (healthy ok);
-      write-steps-may = λ c ok. write-allowed (healthy (write-fails fm i c ok .stored)) c ok;
+      write-steps-may = λ o c ok. write-allowed (healthy (write-fails fm i o c ok .stored)) o c ok;
     }
 
 -- ---- where there are no groups
@@ -143,12 +144,12 @@ module _ (chip : Chip) where
     has-first : has-edition chip (chip .first) ≡ true
     all-within : within (size fm) (length (new-flash chip)) (format-steps (fm .edition) 2) ≡ true
     edition : form-of chip laid-out ≡ fm
-    accepted : write-number fm change laid-out ≡ OK
+    accepted : write-number fm handset change laid-out ≡ OK
     steps : write-of fm change laid-out ≡ program 0 3 first 5 0 ∷ program 0 3 second 65 20 ∷ []
     torn : bytes-at 12 4 (with-second 67 20) ≡ 0x05 ∷ 0x00 ∷ 0x43 ∷ 0x14 ∷ []
-    torn-reads : read (form-of chip (with-second 67 20)) 5 (with-second 67 20) ≡ finds-nothing
+    torn-reads : read (form-of chip (with-second 67 20)) handset 5 (with-second 67 20) ≡ finds-nothing
     whole : bytes-at 12 4 (with-second 65 20) ≡ 0x05 ∷ 0x00 ∷ 0x41 ∷ 0x14 ∷ []
-    whole-reads : read (form-of chip (with-second 65 20)) 5 (with-second 65 20) ≡ finds 65
+    whole-reads : read (form-of chip (with-second 65 20)) handset 5 (with-second 65 20) ≡ finds 65
 
 computed : Computed smaller-chip × Computed larger-chip
 unfolding within with-second laid-out laid laid-all offset aim after run zeros check sound blank second-blank condition low16 low24 third checked
@@ -158,8 +159,8 @@ unfolding within with-second laid-out laid laid-all offset aim after run zeros c
     last-of value put put-all settings held past free-slot active-page active-slots has-room in-group open-group count renew renew-all format-steps
     unclean slots-steps settings-of words-of append-steps is-value all-values write-steps first-of store-rows blank-read-rows read-rows write-rows way
     way-steps new-page next-order fill-steps other cut page-count pages own-edition has-edition opens-itself edition-of form-of wrong-size no-store
-    among repeats all-used damaged is-unclean wrong-group wrong-address a-wrong-address is-held is-new no-room order-end store-number write-number
-    blank-read-number read-number accepted format or-value reading read bytes-at
+    among repeats all-used damaged is-unclean wrong-group wrong-address a-wrong-address a-foreign is-held is-new no-room held-by crowded order-end
+    store-number write-number blank-read-number read-number accepted format or-value reading read bytes-at
 computed = (
   record {
     lawful = refl;
@@ -199,14 +200,14 @@ module _ (chip : Chip) (is : Computed chip) where
   fresh-is = format-laid (fm chip) 2 (new-flash chip) (is .lawful) (is .two) (is .all-within)
 
   -- a write that is stopped after n of its steps ss, and what is left when the next fails
-  stopped : (n : ℕ) (ss : List Step) (i j : Image) → form-of chip i ≡ fm chip → write-number (fm chip) change i ≡ OK → write-of (fm chip) change i ≡ ss
+  stopped : (n : ℕ) (ss : List Step) (i j : Image) → form-of chip i ≡ fm chip → write-number (fm chip) handset change i ≡ OK → write-of (fm chip) change i ≡ ss
       → BytesLeft (size (fm chip)) 0 (drop (length (take n ss)) ss) (run (size (fm chip)) (take n ss) i) j
-      → Interrupted chip (by-the-rules chip) change i (length (take n ss)) j
+      → Interrupted chip (by-the-rules chip) handset change i (length (take n ss)) j
   unfolding write
   stopped n ss i j by ok is l =
-      let done = write (fm chip) change n i in
-      let e : done ≡ _ = ap (λ (xs : List Step). stepped (fm chip) (write-number (fm chip) change i) n xs i) is
-      ∙ stepped-done (fm chip) (write-number (fm chip) change i) n ss i ok in
+      let done = write (fm chip) handset change n i in
+      let e : done ≡ _ = ap (λ (xs : List Step). stepped (fm chip) (write-number (fm chip) handset change i) n xs i) is
+      ∙ stepped-done (fm chip) (write-number (fm chip) handset change i) n ss i ok in
       record {
         after-write = j;
         then = no-more;
@@ -222,10 +223,10 @@ module _ (chip : Chip) (is : Computed chip) where
       }
 
   -- a failure in the second half of the record
-  second-fails : (c d : ℕ) → Rises 8 65 c → Rises 8 20 d → Interrupted chip (by-the-rules chip) change (fresh-store chip) 1 (with-second chip c d)
+  second-fails : (c d : ℕ) → Rises 8 65 c → Rises 8 20 d → Interrupted chip (by-the-rules chip) handset change (fresh-store chip) 1 (with-second chip c d)
   unfolding with-second least offset run
   second-fails c d p q =
-      subst⁻¹ (λ (i : Image). Interrupted chip (by-the-rules chip) change i 1 (with-second chip c d)) fresh-is
+      subst⁻¹ (λ (i : Image). Interrupted chip (by-the-rules chip) handset change i 1 (with-second chip c d)) fresh-is
       (stopped 1 (program 0 3 first 5 0 ∷ program 0 3 second 65 20 ∷ []) (laid-out chip) (with-second chip c d) (is .edition) (is .accepted) (is .steps)
       (failing (record { left = c ∷ d ∷ []; rises = byte p (byte q no-bytes); image = refl })))
 
@@ -234,8 +235,8 @@ module _ (chip : Chip) (is : Computed chip) where
       record {
         in-use = formatted (chip .first) (new-flash chip) (format (fm chip) (new-flash chip)) (is .has-first, refl)
             (ap (λ (f : Formatted). f .number) (format-done (fm chip) (new-flash chip) (is .lawful)));
-        accepted = subst⁻¹ (λ (i : List ℕ). write-number (form-of chip i) change i ≡ OK) fresh-is
-            (subst⁻¹ (λ (f : Form). write-number f change (laid-out chip) ≡ OK) (is .edition) (is .accepted));
+        accepted = subst⁻¹ (λ (i : List ℕ). write-number (form-of chip i) handset change i ≡ OK) fresh-is
+            (subst⁻¹ (λ (f : Form). write-number f handset change (laid-out chip) ≡ OK) (is .edition) (is .accepted));
         torn = record {
           left = with-second chip 67 20;
           cut = second-fails 67 20 value-rises (rises-refl 8 20);

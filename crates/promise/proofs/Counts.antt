@@ -13,6 +13,7 @@ use Rattle.rules.specs.Store.{each, Setting, states, is-cleared, active-index, 
 use Rattle.rules.specs.Steps.{Way, stay, append-to, open-at, move-to, renew, greatest-wear, Renewal, renewal, renewals, renew-each, renew-picked, other}
 use Rattle.rules.specs.Steps.{Change, settings-of, words-of, record-of, all-values, move-records, slots-steps, append-steps, open-steps, fill-steps}
 use Rattle.rules.specs.Steps.{move-steps, taken, next-order, new-page, way, way-steps, write-steps}
+use Rattle.rules.specs.Owner.{Owner}
 use Rattle.rules.specs.Call.{pages, write-number, OK}
 use Rattle.rules.proofs.Truth.{by-cases, not-both}
 use Rattle.rules.proofs.Stores.{count-append}
@@ -81,8 +82,8 @@ move-is c ps m =
 
 pub move-wears : a-move-wears-all-but-one
 unfolding write-steps way-steps
-move-wears fm i c ok m =
-    let fails = write-fails fm i c ok in
+move-wears fm i o c ok m =
+    let fails = write-fails fm i o c ok in
     let l = taken-within fm i (fails .stored) (fails .clean) in
     let ps = pages fm i in
     rw (move-is c ps m) (move-erases (fm .edition) (taken ps) (next-order ps) (move-records (settings-of c) (settings ps)) ps (rw (pages-long fm i) l)
@@ -105,19 +106,19 @@ others-wear-none fm i c m = way-erases (fm .edition) c (pages fm i) (way c (page
 -- ---- lengths
 
 -- no more is copied than may be held
-moved-few : (fm : Form) (c : Change) (i : Image) → write-number fm c i ≡ OK → all-values (settings-of c) (pages fm i) ≡ false
+moved-few : (fm : Form) (o : Owner) (c : Change) (i : Image) → write-number fm o c i ≡ OK → all-values (settings-of c) (pages fm i) ≡ false
     → length (move-records (settings-of c) (settings (pages fm i))) ≤ 192
 unfolding settings
-moved-few fm c i ok s =
-    let fails = write-fails fm i c ok in
+moved-few fm o c i ok s =
+    let fails = write-fails fm i o c ok in
     moved-length (settings-of c) (journal (pages fm i)) 192 (room-for (settings-of c) (pages fm i) (fails .room s))
     (change-distinct (fm .edition) c (fails .grouped))
 
 pub not-longer : no-write-is-longer
 unfolding write-steps way way-steps new-page append-steps
-not-longer fm i c ok =
+not-longer fm i o c ok =
     let ps = pages fm i in
-    let fails = write-fails fm i c ok in
+    let fails = write-fails fm i o c ok in
     let few = change-words (fm .edition) c (fails .grouped) .1 in
     by-cases (all-values (settings-of c) ps) (λ s. rw s (omega arith))
     (λ s.
@@ -130,4 +131,4 @@ not-longer fm i c ok =
     let many = pages-long fm i in
     let inside = taken-within fm i (fails .stored) (fails .clean) in
     let long = move-long (fm .edition) (taken ps) (next-order ps) (move-records (settings-of c) (settings ps)) ps (omega arith) in
-    rw (s, f, d) (omega (arith, long, moved-few fm c i ok s)))))
+    rw (s, f, d) (omega (arith, long, moved-few fm o c i ok s)))))

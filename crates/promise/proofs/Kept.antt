@@ -5,7 +5,6 @@ use mathlib.Core.Logic.{_⊎_, inl, inr, ⊎-elim}
 use mathlib.Core.Bool.{true, false}
 use mathlib.Core.List.{List}
 use mathlib.Core.Option.{Option, none}
-use native.Mathlib.Omega.{arith}
 use lib.ListN.{length}
 use lib.Seq.{take-all}
 use borrow.Author.Tests.{leb-true}
@@ -13,10 +12,11 @@ use Rattle.rules.specs.Flash.{Step, run}
 use Rattle.rules.specs.Page.{Form, size, Chip, in-edition}
 use Rattle.rules.specs.Store.{Setting, value}
 use Rattle.rules.specs.Steps.{Change, settings-of, format-steps}
+use Rattle.rules.specs.Owner.{Owner}
 use Rattle.rules.specs.Call.{Roomy, RoomyChip, form-of, page-count, pages, store-number, write-number, a-wrong-address, accepted, stepped}
 use Rattle.rules.specs.Call.{recover, write, Formatted, Stepped, OK}
 use Rattle.rules.proofs.Truth.{by-cases}
-use Rattle.rules.proofs.Rows.{write-fails}
+use Rattle.rules.proofs.Rows.{WriteFails, write-fails}
 use Rattle.rules.proofs.Answers.{format-done, format-right, stepped-done}
 use Rattle.rules.proofs.Plans.{BytesLeft, left-after}
 use Rattle.rules.proofs.Groups.{change-distinct}
@@ -79,7 +79,7 @@ module _ (chip : Chip) (roomy : RoomyChip chip) (C : Calls) (obeys : Obeys chip 
       (called-left fm (store-number fm i) (r .allowance) (recovery-of fm i) i (r .done)
       (obeys .recovers (r .allowance) i (r .done) (r .called)) (store-ok h) j (r .fails))
 
-  recovery-keeps : {t : ℕ → Option ℕ} {i j : Image} → Well t i → RecoveryLeaves chip C i j → Well t j
+  pub recovery-keeps : {t : ℕ → Option ℕ} {i j : Image} → Well t i → RecoveryLeaves chip C i j → Well t j
   recovery-keeps {i = i} h r = carry i (recovery-leaves h r)
 
   recoveries-keep : {t : ℕ → Option ℕ} {i k : Image} → Well t i → Recoveries chip C i k → Well t k
@@ -90,25 +90,27 @@ module _ (chip : Chip) (roomy : RoomyChip chip) (C : Calls) (obeys : Obeys chip 
   recoveries-form h no-more = refl
   recoveries-form {i = i} h (more r rest) = recoveries-form (recovery-keeps h r) rest ∙ form-kept chip (roomy .1) i (recovery-leaves h r)
 
-  module _ {c : Change} {i : Image} {n : ℕ} {j : Image} (w : WriteLeaves chip C c i n j) where
-    as-written : w .done ≡ write (form i) c (w .allowance) i
-    as-written = obeys .writes c (w .allowance) i (w .done) (w .called)
+  -- ---- a write, by whatever owner
 
-    write-ok : write-number (form i) c i ≡ OK
+  module _ {o : Owner} {c : Change} {i : Image} {n : ℕ} {j : Image} (w : WriteLeaves chip C o c i n j) where
+    as-written : w .done ≡ write (form i) o c (w .allowance) i
+    as-written = obeys .writes o c (w .allowance) i (w .done) (w .called)
+
+    pub write-ok : write-number (form i) o c i ≡ OK
     unfolding write
-    write-ok = sym (called-number (form i) (write-number (form i) c i) (w .allowance) (write-of (form i) c i) i (w .done) as-written) ∙ w .accepted
+    write-ok = sym (called-number (form i) (write-number (form i) o c i) (w .allowance) (write-of (form i) c i) i (w .done) as-written) ∙ w .accepted
 
     write-bytes : BytesLeft (size (form i)) n (write-of (form i) c i) i j
     unfolding write
     write-bytes =
         let fm = form i in
         subst (λ (m : ℕ). BytesLeft (size fm) m (write-of fm c i) i j) (w .counted)
-        (called-left fm (write-number fm c i) (w .allowance) (write-of fm c i) i (w .done) as-written write-ok j (w .fails))
+        (called-left fm (write-number fm o c i) (w .allowance) (write-of fm c i) i (w .done) as-written write-ok j (w .fails))
 
   -- a write leaves the old values or the new
-  write-keeps : {t : ℕ → Option ℕ} {c : Change} {i j : Image} {n : ℕ} → Well t i → WriteLeaves chip C c i n j
+  pub write-keeps : {t : ℕ → Option ℕ} {o : Owner} {c : Change} {i j : Image} {n : ℕ} → Well t i → WriteLeaves chip C o c i n j
       → Well t j ⊎ Well (changed (settings-of c) t) j
-  write-keeps {c = c} {i = i} h w = ⊎-elim (λ k. inl (carry i k)) (λ k. inr (carry i k)) (write-left h c (write-ok w) tt (write-bytes w))
+  write-keeps {o = o} {c = c} {i = i} h w = ⊎-elim (λ k. inl (carry i k)) (λ k. inr (carry i k)) (write-left h o c (write-ok w) tt (write-bytes w))
 
   pub in-use-healthy : {i : Image} → InUse chip C i → (t : ℕ → Option ℕ) × Well t i
   in-use-healthy (formatted e i f x ok) =
@@ -122,7 +124,7 @@ module _ (chip : Chip) (roomy : RoomyChip chip) (C : Calls) (obeys : Obeys chip 
             (sym (form-told chip e (is .0) h)) h),
       )
   in-use-healthy (recovered u r) = let h = in-use-healthy u in (h .0, recovery-keeps (h .1) r)
-  in-use-healthy (written c u w) =
+  in-use-healthy (written o c u w) =
       let h = in-use-healthy u in
       ⊎-elim (λ k. (h .0, k)) (λ k. (changed (settings-of c) (h .0), k)) (write-keeps (h .1) w)
 
@@ -145,30 +147,46 @@ module _ (chip : Chip) (roomy : RoomyChip chip) (C : Calls) (obeys : Obeys chip 
         let was : before ≡ answer-by t q = obeys .answers q i before x ∙ answers-are h q in
         obeys .answers q k after y ∙ answers-are g q ∙ not-asked rs t q none-of ∙ sym was
 
-  -- ---- what a finished write puts at an address, a read finds
+  -- ---- what a finished write puts at an address, a read by its owner finds
 
-  found : (i : Image) (c : Change) (n : ℕ) (s : Stepped) → C .Writes c n i s → s .number ≡ OK → s .finished ≡ true → Found chip C (settings-of c) i (s .image)
-  unfolding write
-  found i c n s x ok fin =
-      let fm = form i in
-      let rs = settings-of c in
-      let is = obeys .writes c n i s x in
-      let number = sym (called-number fm (write-number fm c i) n (write-of fm c i) i s is) ∙ ok in
-      let fails = write-fails fm i c number in
-      let h = accepted-healthy fm (form-roomy i) (Unit {0}) i (fails .stored) (λ one. accepted-editions fm i (fails .clean)) in
-      let e = called-run fm (write-number fm c i) n (write-of fm c i) i s is number fin in
-      let t : ℕ → Option ℕ = λ x. value x (pages fm i) in
-      let g = carry i (subst (Healthy fm ⊥ (Unit {0}) (changed rs t)) (sym e) (write-run h c number)) in
-      record {
-        there = each-map (λ a v found r y. obeys .answers (value-at a) (s .image) r y ∙ answers-are g (value-at a) ∙ found) rs
-            (each-found rs t (change-distinct (fm .edition) c (fails .grouped)) (fails .addressed));
-        elsewhere = others-same rs (fails .addressed) h g;
-        everywhere = changes rs (fails .addressed) h g;
-      }
+  module _ (i : Image) (o : Owner) (c : Change) (n : ℕ) (s : Stepped) (x : C .Writes o c n i s) where
+    abbrev fm : Form
+    fm = form i
+
+    pub is-write : s ≡ write fm o c n i
+    is-write = obeys .writes o c n i s x
+
+    pub wrote-number : s .number ≡ write-number fm o c i
+    unfolding write
+    wrote-number = called-number fm (write-number fm o c i) n (write-of fm c i) i s is-write
+
+    -- a finished one has done all its steps, whatever values the store had
+    module _ (ok : s .number ≡ OK) (fin : s .finished ≡ true) where
+      pub passed : WriteFails fm i o c
+      passed = write-fails fm i o c (sym wrote-number ∙ ok)
+
+      pub write-done : {May : Type 0} {t : ℕ → Option ℕ} → WellIf May t i → WellIf May (changed (settings-of c) t) (s .image)
+      unfolding write
+      write-done {May} {t} h =
+          let e = called-run fm (write-number fm o c i) n (write-of fm c i) i s is-write (sym wrote-number ∙ ok) fin in
+          carry i (subst (Healthy fm May (Unit {0}) (changed (settings-of c) t)) (sym e) (write-run h o c (sym wrote-number ∙ ok)))
+
+      found : Found chip C (settings-of c) i (s .image)
+      found =
+          let rs = settings-of c in
+          let h = accepted-healthy fm (form-roomy i) (Unit {0}) i (passed .stored) (λ one. accepted-editions fm i (passed .clean)) in
+          let t : ℕ → Option ℕ = λ x. value x (pages fm i) in
+          let g = write-done h in
+          record {
+            there = each-map (λ a v found m own r y. obeys .answers (value-at m a) (s .image) r y ∙ answers-are g (value-at m a) ∙ found m own) rs
+                (each-found rs t (change-distinct (fm .edition) c (passed .grouped)) (passed .addressed));
+            elsewhere = others-same rs (passed .addressed) h g;
+            everywhere = changes rs (passed .addressed) h g;
+          }
 
   -- ---- nothing is lost
 
-  module _ (i : Image) (u : InUse chip C i) (c : Change) where
+  module _ (i : Image) (u : InUse chip C i) (o : Owner) (c : Change) where
     abbrev rs : List Setting
     rs = settings-of c
 
@@ -178,9 +196,9 @@ module _ (chip : Chip) (roomy : RoomyChip chip) (C : Calls) (obeys : Obeys chip 
     abbrev h : Well t i
     h = in-use-healthy u .1
 
-    module _ {n : ℕ} {k : Image} (x : Interrupted chip C c i n k) where
+    module _ {n : ℕ} {k : Image} (x : Interrupted chip C o c i n k) where
       addressed : a-wrong-address rs ≡ false
-      addressed = write-fails (form i) i c (write-ok (x .write)) .addressed
+      addressed = write-fails (form i) i o c (write-ok (x .write)) .addressed
 
       pub either : Well t k ⊎ Well (changed rs t) k
       either = ⊎-elim (λ g. inl (recoveries-keep g (x .then))) (λ g. inr (recoveries-keep g (x .then))) (write-keeps h (x .write))
@@ -190,7 +208,7 @@ module _ (chip : Chip) (roomy : RoomyChip chip) (C : Calls) (obeys : Obeys chip 
       form-stays =
           ⊎-elim (λ g. recoveries-form (carry i g) (x .then) ∙ form-kept chip (roomy .1) i g)
           (λ g. recoveries-form (carry i g) (x .then) ∙ form-kept chip (roomy .1) i g)
-          (write-left h c (write-ok (x .write)) tt (write-bytes (x .write)))
+          (write-left h o c (write-ok (x .write)) tt (write-bytes (x .write)))
 
       old-or-new : ((q : Question) → Same chip C q i k) ⊎ ((q : Question) → Changed chip C rs q i k)
       old-or-new = ⊎-elim (λ g. inl (same h g)) (λ g. inr (changes rs addressed h g)) either
@@ -199,7 +217,7 @@ module _ (chip : Chip) (roomy : RoomyChip chip) (C : Calls) (obeys : Obeys chip 
       in-use-then w no-more = w
       in-use-then w (more r rest) = in-use-then (recovered w r) rest
 
-    new-stays : {n m : ℕ} {k l : Image} → Interrupted chip C c i n k → Interrupted chip C c i m l → n < m
+    new-stays : {n m : ℕ} {k l : Image} → Interrupted chip C o c i n k → Interrupted chip C o c i m l → n < m
         → (q : Question) (old : EachAnswer) (one later : Answer q) → AnswersEach chip C i old → C .Answers q k one → C .Answers q l later
         → one ≡ with-values rs old q → later ≡ with-values rs old q
     new-stays x y lt q old one later p r s e =
@@ -208,15 +226,15 @@ module _ (chip : Chip) (roomy : RoomyChip chip) (C : Calls) (obeys : Obeys chip 
         let was : old q ≡ with-values rs old q = sym (same h (recoveries-keep (carry i g) (x .then)) q (old q) one (p q) r) ∙ e in
         ⊎-elim (λ f. f q (old q) later (p q) s ∙ was) (λ f. f q old later p s) (old-or-new y))
         (λ g. changes rs (addressed y) h (recoveries-keep (carry i g) (y .then)) q old later p s)
-        (write-later h c (write-ok (x .write)) tt (write-bytes (x .write)) (write-bytes (y .write)) lt)
+        (write-later h o c (write-ok (x .write)) tt (write-bytes (x .write)) (write-bytes (y .write)) lt)
 
-    nothing-lost : NothingLost chip C c i
+    nothing-lost : NothingLost chip C o c i
     nothing-lost =
         record {
           others = λ x q none-of. ⊎-elim (λ g. same h g q) (λ g. others-same rs (addressed x) h g q none-of) (either x);
           old-or-new = old-or-new;
           new-stays = new-stays;
-          still-in-use = λ x. in-use-then x (written c u (x .write)) (x .then);
+          still-in-use = λ x. in-use-then x (written o c u (x .write)) (x .then);
         }
 
   -- ---- a recovery mends
@@ -237,20 +255,15 @@ module _ (chip : Chip) (roomy : RoomyChip chip) (C : Calls) (obeys : Obeys chip 
     same-form = form-kept chip (roomy .1) i (recovery-run healthy)
 
     mended : Mended chip C i
-    unfolding recover write
+    unfolding recover
     mended =
         record {
           answers = λ r. same healthy (recoveries-keep healthy r);
           accepted = λ n s x. called-number (form i) (store-number (form i) i) n (recovery-of (form i) i) i s (obeys .recovers n i s x) ∙ store-ok healthy;
           clean = λ n s x fin. rw (finished n s x fin, same-form) (recovery-cleans healthy);
-          writable = λ n s x fin c m w y.
-              let j = s .image in
-              rw (
-                called-number (form j) (write-number (form j) c j) m (write-of (form j) c j) j w (obeys .writes c m j w y),
-                finished n s x fin,
-                same-form,
-              )
-              (not-refused (form i) c done (store-ok (recovery-run healthy)) (recovery-cleans healthy));
+          writable = λ n s x fin o c m w y.
+              rw (wrote-number (s .image) o c m w y, finished n s x fin, same-form)
+              (not-refused (form i) o c done (store-ok (recovery-run healthy)) (recovery-cleans healthy));
         }
 
 pub kept : the-promise

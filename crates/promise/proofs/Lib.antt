@@ -1,6 +1,7 @@
 -- The promise, proved.
 pub mod Answers
 pub mod Kept
+pub mod Owners
 pub mod Counts
 pub mod Wears
 pub mod Broken

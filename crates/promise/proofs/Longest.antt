@@ -2,7 +2,7 @@
 -- with nothing in them, and one cleared page. Assumes nothing.
 use Prim.Native.Nat.{ℕ, zero, suc, _+_, _-_, _*_, _≤_, _<_}
 use mathlib.Core.Path.{_≡_, refl, sym, ap, ap₂, _∙_, subst}
-use mathlib.Core.Bool.{true, false}
+use mathlib.Core.Bool.{true, false, _||_}
 use mathlib.Core.List.{List, [], _∷_, _++_, map, append-nil}
 use mathlib.Core.Option.{some}
 use native.Mathlib.Nat.{zero-mul, suc-mul}
@@ -18,8 +18,9 @@ use Rattle.rules.specs.Store.{is-active, page-at, active-page, active-slots, ha
 use Rattle.rules.specs.Store.{records, each, all-records, journal, or-else, last-of, put, put-all, settings, held, value, open-group}
 use Rattle.rules.specs.Steps.{unclean, Change, single, settings-of, words-of, record-of, but, but-all, move-records, is-value, all-values, taken, next-order}
 use Rattle.rules.specs.Steps.{new-page, way, way-steps, write-steps}
+use Rattle.rules.specs.Owner.{handset, a-foreign}
 use Rattle.rules.specs.Call.{Roomy, page-count, pages, cut, repeats, is-unclean, wrong-group, wrong-address, a-wrong-address, is-held, is-new, no-room}
-use Rattle.rules.specs.Call.{order-end, write-number, OK}
+use Rattle.rules.specs.Call.{crowded, order-end, write-number, OK}
 use Rattle.rules.proofs.Truth.{is-false, not-both}
 use Rattle.rules.proofs.Words.{blank-is, blank-not-sound, record-sound}
 use Rattle.rules.proofs.Pages.{wear-is-wear, opened-plain, fresh-cleared}
@@ -347,10 +348,15 @@ module _ (fm : Form) (roomy : Roomy fm) (m : ℕ) (few : m ≤ 30) where
   unfolding no-room settings-of count is-new is-held
   room = rw first-value (le-ltb 192 (held (pages fm image) + (0 + 0)) (omega (arith, few-here healthy)))
 
-  accepted : write-number fm change image ≡ OK
-  unfolding wrong-group a-wrong-address wrong-address settings-of words-of order-end
+  -- nothing that is written is new
+  room-too : (no-room (settings-of change) (pages fm image) || crowded handset (settings-of change) (pages fm image)) ≡ false
+  unfolding crowded settings-of count is-new is-held
+  room-too = rw (room, first-value)
+
+  accepted : write-number fm handset change image ≡ OK
+  unfolding wrong-group a-wrong-address wrong-address a-foreign settings-of words-of order-end
   accepted =
-      write-ok fm change image (store-ok healthy) clean refl refl fresh room
+      write-ok fm handset change image (store-ok healthy) clean refl refl refl fresh room-too
       (rw (pages-are, none-free, newest) (ne-eqb m 4194303 (λ e. omega arith)))
 
   long : length (write-of fm change image) ≡ 388 + 3 * (suc (suc m) - 1)

@@ -13,12 +13,13 @@ use Rattle.rules.specs.Page.{Form, size, Chip, in-edition, Page, wear-place}
 use Rattle.rules.specs.Store.{states, base, used, is-cleared, page-at, count, used-orders, held, each, last-of, Setting, setting, records, open-group}
 use Rattle.rules.specs.Steps.{renew, renewed-wear, greatest-wear, renew-picked, unclean, format-steps, Change, single, group, settings-of, Way, stay}
 use Rattle.rules.specs.Steps.{append-to, open-at, move-to, taken, way}
+use Rattle.rules.specs.Owner.{Owner, handset}
 use Rattle.rules.specs.Call.{Roomy, RoomyChip, form-of, held-limit, page-count, pages, wrong-size, store-number, repeats, all-used}
 use Rattle.rules.specs.Call.{write-number, OK, NOT-HELD, Reading, read, code, lookup, format}
 use Rattle.rules.specs.Named.{smaller-chip, larger-chip}
 use Rattle.rules.specs.Listing.{half, spoiled}
 use Rattle.promise.specs.Calls.{Image, pairing-code, finds, by-the-rules}
-use Rattle.promise.specs.History.{recovery-of, write-of, InUse, Interrupted}
+use Rattle.promise.specs.History.{pages-of, recovery-of, write-of, InUse, Interrupted}
 use Rattle.promise.specs.Promise.{Same, Changed}
 
 -- Each is of any chip or any form of pages, if a page has more slots than addresses may be held.
@@ -27,15 +28,11 @@ use Rattle.promise.specs.Promise.{Same, Changed}
 abbrev pub Used : Chip → Image → Type 0
 Used chip = InUse chip (by-the-rules chip)
 
--- the pages of an image, read by its edition
-abbrev pub pages-of : Chip → Image → List Page
-pages-of chip i = pages (form-of chip i) i
-
 -- "Does a handset forget its pairing code if the battery contact opens while a digit of it is being set?" No: the whole answer of
 -- the lookup is as before, or it is as before with the new digits. The addresses may be any: a write elsewhere leaves the code.
 abbrev pub the-code-survives : Type 0
-the-code-survives = (chip : Chip) → RoomyChip chip → (i : Image) → Used chip i → (c : Change) (n : ℕ) (k : Image)
-    → Interrupted chip (by-the-rules chip) c i n k
+the-code-survives = (chip : Chip) → RoomyChip chip → (i : Image) → Used chip i → (o : Owner) (c : Change) (n : ℕ) (k : Image)
+    → Interrupted chip (by-the-rules chip) o c i n k
     → Same chip (by-the-rules chip) pairing-code i k ⊎ Changed chip (by-the-rules chip) (settings-of c) pairing-code i k
 
 -- "Can a potter see half of a new code?" No: after a cut write of a group that has all four digits, in whatever order and whatever else
@@ -43,19 +40,19 @@ the-code-survives = (chip : Chip) → RoomyChip chip → (i : Image) → Used ch
 abbrev pub never-half-a-code : Type 0
 never-half-a-code = (chip : Chip) → RoomyChip chip → (i : Image) → Used chip i → (rs : List Setting) (d₀ d₁ d₂ d₃ : ℕ)
     → code (λ a. last-of a rs) ≡ some d₀ ∷ some d₁ ∷ some d₂ ∷ some d₃ ∷ []
-    → (n : ℕ) (k : Image) → Interrupted chip (by-the-rules chip) (group rs) i n k
+    → (o : Owner) (n : ℕ) (k : Image) → Interrupted chip (by-the-rules chip) o (group rs) i n k
     → (lookup (form-of chip k) k ≡ lookup (form-of chip i) i)
     ⊎ (lookup (form-of chip k) k ≡ record { number = OK; paired = true; digits = d₀ ∷ d₁ ∷ d₂ ∷ d₃ ∷ [] })
 
 -- "Can a paired handset come unpaired?" No: whatever it writes, and wherever power fails in that, it is paired still.
 abbrev pub a-paired-handset-stays-paired : Type 0
 a-paired-handset-stays-paired = (chip : Chip) → RoomyChip chip → (i : Image) → Used chip i → lookup (form-of chip i) i .paired ≡ true
-    → (c : Change) (n : ℕ) (k : Image) → Interrupted chip (by-the-rules chip) c i n k → lookup (form-of chip k) k .paired ≡ true
+    → (o : Owner) (c : Change) (n : ℕ) (k : Image) → Interrupted chip (by-the-rules chip) o c i n k → lookup (form-of chip k) k .paired ≡ true
 
 -- "Can a store change its edition?" Never, whatever is written and wherever power fails: it has the one that its format was told.
 abbrev pub an-edition-stays : Type 0
-an-edition-stays = (chip : Chip) → RoomyChip chip → (i : Image) → Used chip i → (c : Change) (n : ℕ) (k : Image)
-    → Interrupted chip (by-the-rules chip) c i n k → form-of chip k ≡ form-of chip i
+an-edition-stays = (chip : Chip) → RoomyChip chip → (i : Image) → Used chip i → (o : Owner) (c : Change) (n : ℕ) (k : Image)
+    → Interrupted chip (by-the-rules chip) o c i n k → form-of chip k ≡ form-of chip i
 
 -- "Can there be two pages that both claim to be current?" No two used pages have one order.
 abbrev pub orders-differ : Type 0
@@ -92,7 +89,7 @@ the-first-edition-is-as-it-was = (fm : Form) → has-groups (fm .edition) ≡ fa
 pub record MayBeDone (fm : Form) (i : Image) : Type 0 where
   pub format-steps-may : wrong-size fm i ≡ false → AllAllowed (size fm) (format-steps (fm .edition) (page-count fm i)) i
   pub recovery-steps-may : store-number fm i ≡ OK → AllAllowed (size fm) (recovery-of fm i) i
-  pub write-steps-may : (c : Change) → write-number fm c i ≡ OK → AllAllowed (size fm) (write-of fm c i) i
+  pub write-steps-may : (o : Owner) (c : Change) → write-number fm o c i ≡ OK → AllAllowed (size fm) (write-of fm c i) i
 
 abbrev pub every-step-may-be-done : Type 0
 every-step-may-be-done = (fm : Form) → Roomy fm → (i : Image) → MayBeDone fm i
@@ -112,7 +109,7 @@ moves (open-at p o) = false
 moves (move-to p o) = true
 
 abbrev pub a-move-wears-all-but-one : Type 0
-a-move-wears-all-but-one = (fm : Form) (i : Image) (c : Change) → write-number fm c i ≡ OK → moves (way c (pages fm i)) ≡ true
+a-move-wears-all-but-one = (fm : Form) (i : Image) (o : Owner) (c : Change) → write-number fm o c i ≡ OK → moves (way c (pages fm i)) ≡ true
     → erases (write-of fm c i) + 1 ≡ page-count fm i
 
 abbrev pub another-write-wears-none : Type 0
@@ -176,14 +173,14 @@ abbrev pub longest : (pages : ℕ) → ℕ
 longest n = 388 + 3 * (n - 1)
 
 abbrev pub no-write-is-longer : Type 0
-no-write-is-longer = (fm : Form) (i : Image) (c : Change) → write-number fm c i ≡ OK → length (write-of fm c i) ≤ longest (page-count fm i)
+no-write-is-longer = (fm : Form) (i : Image) (o : Owner) (c : Change) → write-number fm o c i ≡ OK → length (write-of fm c i) ≤ longest (page-count fm i)
 
 pub record Longest (fm : Form) (n : ℕ) : Type 0 where
   pub image : Image
   pub address : ℕ
   pub value : ℕ
   pub so-many : page-count fm image ≡ n
-  pub accepted : write-number fm (single address value) image ≡ OK
+  pub accepted : write-number fm handset (single address value) image ≡ OK
   pub long : length (write-of fm (single address value) image) ≡ longest n
 
 abbrev pub a-longest-write : Type 0
@@ -206,13 +203,13 @@ finds-nothing = record { number = NOT-HELD; value = 0 }
 
 pub record CutLeaving (chip : Chip) (record-bytes : List ℕ) (answer : Reading) : Type 0 where
   pub left : Image
-  pub cut : Interrupted chip (by-the-rules chip) (single 5 65) (fresh-store chip) 1 left
+  pub cut : Interrupted chip (by-the-rules chip) handset (single 5 65) (fresh-store chip) 1 left
   pub record-left : bytes-at 12 4 left ≡ record-bytes
-  pub reads : read (form-of chip left) 5 left ≡ answer
+  pub reads : read (form-of chip left) handset 5 left ≡ answer
 
 pub record SuchAStore (chip : Chip) : Type 0 where
   pub in-use : Used chip (fresh-store chip)
-  pub accepted : write-number (form-of chip (fresh-store chip)) (single 5 65) (fresh-store chip) ≡ OK
+  pub accepted : write-number (form-of chip (fresh-store chip)) handset (single 5 65) (fresh-store chip) ≡ OK
   pub torn : CutLeaving chip (0x05 ∷ 0x00 ∷ 0x43 ∷ 0x14 ∷ []) finds-nothing
   pub complete : CutLeaving chip (0x05 ∷ 0x00 ∷ 0x41 ∷ 0x14 ∷ []) (finds 65)
 

@@ -5,9 +5,14 @@ use mathlib.Core.List.{List}
 use lib.ListN.{drop}
 use Rattle.rules.specs.Flash.{Step, after, Fails, Left}
 use Rattle.rules.specs.Steps.{Change, recovery-steps, write-steps}
-use Rattle.rules.specs.Page.{Form, size, Chip}
+use Rattle.rules.specs.Page.{Form, size, Chip, Page}
+use Rattle.rules.specs.Owner.{Owner}
 use Rattle.rules.specs.Call.{form-of, pages, OK, Formatted, Stepped}
 use Rattle.promise.specs.Calls.{Image, Calls}
+
+-- the pages of an image, read by its edition
+abbrev pub pages-of : Chip → Image → List Page
+pages-of chip i = pages (form-of chip i) i
 
 -- the steps of a recovery and of a write, fixed by the image at the call
 abbrev pub recovery-of : (form : Form) → Image → List Step
@@ -29,21 +34,22 @@ module _ (chip : Chip) (C : Calls) where
     pub called : C .Recovers allowance i done
     pub fails : FailsAfter (form-of chip i) done (recovery-of (form-of chip i) i) left
 
-  -- what an accepted write leaves that has done n whole steps
-  pub record WriteLeaves (c : Change) (i : Image) (n : ℕ) (left : Image) : Type 0 where
+  -- what an owner's accepted write leaves that has done n whole steps
+  pub record WriteLeaves (o : Owner) (c : Change) (i : Image) (n : ℕ) (left : Image) : Type 0 where
     pub allowance : ℕ
     pub done : Stepped
-    pub called : C .Writes c allowance i done
+    pub called : C .Writes o c allowance i done
     pub accepted : done .number ≡ OK
     pub counted : done .steps ≡ n
     pub fails : FailsAfter (form-of chip i) done (write-of (form-of chip i) c i) left
 
   -- A store in use: its last format finished, and only our calls have touched it since. Power may have failed in any step of a
-  -- write or recovery. That a recovery has finished before each write is not asked: a write is refused as long as one is needed.
+  -- write, by whatever owner, or recovery. That a recovery has finished before each write is not asked: a write is refused as long as
+  -- one is needed.
   pub data InUse : Image → Type 0 where
     formatted : (e : ℕ) (i : Image) (f : Formatted) → C .Formats e i f → f .number ≡ OK → InUse (f .image)
     recovered : {i j : Image} → InUse i → RecoveryLeaves i j → InUse j
-    written : {i j : Image} {n : ℕ} (c : Change) → InUse i → WriteLeaves c i n j → InUse j
+    written : {i j : Image} {n : ℕ} (o : Owner) (c : Change) → InUse i → WriteLeaves o c i n j → InUse j
 
   -- any number of recoveries, each finished or stopped anywhere
   pub data Recoveries : (before left : Image) → Type 0 where
@@ -51,7 +57,7 @@ module _ (chip : Chip) (C : Calls) where
     more : {i j k : Image} → RecoveryLeaves i j → Recoveries j k → Recoveries i k
 
   -- Power fails anywhere in an accepted write, n steps of which are done, and perhaps in the recoveries after it.
-  pub record Interrupted (c : Change) (i : Image) (n : ℕ) (left : Image) : Type 0 where
+  pub record Interrupted (o : Owner) (c : Change) (i : Image) (n : ℕ) (left : Image) : Type 0 where
     pub after-write : Image
-    pub write : WriteLeaves c i n after-write
+    pub write : WriteLeaves o c i n after-write
     pub then : Recoveries after-write left

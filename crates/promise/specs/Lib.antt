@@ -2,4 +2,5 @@
 pub mod Calls
 pub mod History
 pub mod Promise
+pub mod Owners
 pub mod Corollaries

@@ -7,11 +7,13 @@ use settings::NO_VALUE;
 use survey::ADDRESS;
 use survey::NOT_HELD;
 use survey::OK;
+use survey::OWNER;
 ghost use mathlib.Core.Path.{_≡_};
 ghost use mathlib.Core.List.{List};
 ghost use Prim.Native.Nat.{ℕ, _≤_, _<_};
 ghost use lib.ListN.{length};
 ghost use Rattle.rules.specs.Store.{Setting, Rising, last-of};
+ghost use Rattle.rules.specs.Owner.{named-owner};
 ghost use Rattle.rules.specs.Call.{refused-reading, refused-lookup, read, blank-read, code, pairing, lookup};
 ghost use Rattle.pages.specs.Read.{as-form, Lawful};
 ghost use Rattle.settings.specs.Held.{Holds};
@@ -56,9 +58,9 @@ pub fn refused_lookup(number: u8) -> Pairing
     }
 }
 
-pub fn read(image: &[u8], form: Form, address: u16) -> Reading
+pub fn read(image: &[u8], form: Form, timer: bool, address: u16) -> Reading
     requires { ⌜ Lawful form ⌝ }
-    ensures { λ r. ⌜ as-reading r ≡ read (as-form form) address (now (image .entry)) ⌝ }
+    ensures { λ r. ⌜ as-reading r ≡ read (as-form form) (named-owner timer) address (now (image .entry)) ⌝ }
 {
     let mut addresses = [NO_ADDRESS; HELD_MAX];
     let mut values = [NO_VALUE; HELD_MAX];
@@ -70,6 +72,9 @@ pub fn read(image: &[u8], form: Form, address: u16) -> Reading
     if address == NO_ADDRESS {
         return refused(ADDRESS);
     }
+    if !owners::owns(timer, address) {
+        return refused(OWNER);
+    }
     match settings::value_in(&addresses, &values, address) {
         Held::Value(value) => Reading { number: OK, value },
         Held::Nothing => refused(NOT_HELD),
@@ -77,11 +82,11 @@ pub fn read(image: &[u8], form: Form, address: u16) -> Reading
 }
 
 // C18. Blank read: what a read answers, and a blank of an address that is not held.
-pub fn blank_read(image: &[u8], form: Form, address: u16) -> Reading
+pub fn blank_read(image: &[u8], form: Form, timer: bool, address: u16) -> Reading
     requires { ⌜ Lawful form ⌝ }
-    ensures { λ r. ⌜ as-reading r ≡ blank-read (as-form form) address (now (image .entry)) ⌝ }
+    ensures { λ r. ⌜ as-reading r ≡ blank-read (as-form form) (named-owner timer) address (now (image .entry)) ⌝ }
 {
-    let reading = read(image, form, address);
+    let reading = read(image, form, timer, address);
     let number = reading.number;
     if number != NOT_HELD {
         return reading;

@@ -16,6 +16,7 @@ use Rattle.rules.specs.Page.{Form, word-count, size, Chip, in-edition, P
 use Rattle.rules.specs.Store.{states, base, used, is-open, used-orders, Setting, last-of, journal, settings, held, value, put-all, count}
 use Rattle.rules.specs.Store.{open-group}
 use Rattle.rules.specs.Steps.{unclean, Change, settings-of, format-steps, recovery-steps, write-steps}
+use Rattle.rules.specs.Owner.{Owner}
 use Rattle.rules.specs.Call.{Roomy, has-edition, form-of, held-limit, page-count, pages, cut, wrong-size, no-store, repeats, all-used, damaged}
 use Rattle.rules.specs.Call.{is-unclean, store-number, write-number, OK}
 use Rattle.rules.proofs.Truth.{or-false-left, or-false-right}
@@ -159,7 +160,7 @@ module _ {fm : Form} {May One : Type 0} {t : ℕ → Option ℕ} {i : List ℕ} 
       let y = run-pages (word-count fm) (h .count) recovery i recovering (h .sized) in
       image-of (y .1) (subst (Has c t) (sym (y .0)) (through-end recovering))
 
-  module _ (ch : Change) (ok : write-number fm ch i ≡ OK) where
+  module _ (o : Owner) (ch : Change) (ok : write-number fm o ch i ≡ OK) where
     abbrev write : List Step
     write = write-steps (fm .edition) ch (pages fm i)
 
@@ -170,7 +171,7 @@ module _ {fm : Form} {May One : Type 0} {t : ℕ → Option ℕ} {i : List ℕ} 
     accepted-here : Accepted c ch t F
     unfolding is-unclean
     accepted-here =
-        let fails = write-fails fm i ch ok in
+        let fails = write-fails fm i o ch ok in
         let ps = told (fm .edition) F in
         let rs = settings-of ch in
         let clean : (not (eqb (count (unclean (base (states ps))) (states ps)) 0) || open-group ps) ≡ false = rw pages-are at (fails .clean) in

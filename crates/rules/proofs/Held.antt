@@ -6,10 +6,10 @@ use mathlib.Core.List.{List}
 use mathlib.Core.Option.{Option}
 use native.Mathlib.Omega.{arith}
 use lib.ListN.{length}
-use borrow.Author.Tests.{ltb-false}
+use borrow.Author.Tests.{ltb-false, le-ltb}
 use Rattle.rules.specs.Page.{Form, Page}
 use Rattle.rules.specs.Store.{Rising, states, base, used-orders, Setting, setting, last-of, settings, journal, value, held, count}
-use Rattle.rules.specs.Call.{pages, store-number, repeats, all-used, damaged, held-limit, is-held, is-new, no-room}
+use Rattle.rules.specs.Call.{pages, store-number, repeats, all-used, damaged, held-limit, is-held, is-new, new-in, no-room}
 use Rattle.rules.proofs.Truth.{or-false-right}
 use Rattle.rules.proofs.Settings.{is-missing, settings-rising, last-of-settings}
 use Rattle.rules.proofs.Stores.{count-alike}
@@ -44,3 +44,7 @@ unfolding no-room held
 room-for rs ps h =
     let l = ltb-false held-limit (length (settings ps) + count (is-new ps) rs) h in
     omega (arith, new-many rs ps)
+
+pub room-enough : (rs : List Setting) (ps : List Page) → held ps + new-in rs ps ≤ held-limit → no-room rs ps ≡ false
+unfolding no-room
+room-enough rs ps l = le-ltb held-limit (held ps + new-in rs ps) l

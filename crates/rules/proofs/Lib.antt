@@ -21,6 +21,7 @@ pub mod Wears
 pub mod Rows
 pub mod Ready
 pub mod Held
+pub mod Owners
 pub mod Answers
 pub mod Named
 pub mod Good

@@ -9,6 +9,7 @@ use lib.Dec.{eqb}
 use borrow.Author.Tests.{eq-eqb, ne-eqb, eqb-true}
 use Rattle.rules.specs.Page.{Form, size, Chip, in-edition}
 use Rattle.rules.specs.Steps.{Change}
+use Rattle.rules.specs.Owner.{Owner, named-owner}
 use Rattle.rules.specs.Call.{SIZE, RoomyChip, form-of, wrong-size, store-rows, store-number, write-number, first-of, format, recover, write, read}
 use Rattle.rules.specs.Call.{blank-read, lookup}
 use Rattle.rules.specs.Call.{refused-format, refused-steps, refused-reading, refused-lookup}
@@ -62,14 +63,16 @@ module _ (n : ℕ) (c : Chip) (named : chip-of n ≡ some c) (i : List ℕ) wher
   pub recover-named : (allowance : ℕ) → recover-at n allowance i ≡ recover (form-of c i) allowance i
   recover-named allowance = on-named (chip-of n) c named (refused-steps SIZE i) (λ d. recover (form-of d i) allowance i)
 
-  pub write-named : (change : Change) (allowance : ℕ) → write-at n change allowance i ≡ write (form-of c i) change allowance i
-  write-named change allowance = on-named (chip-of n) c named (refused-steps SIZE i) (λ d. write (form-of d i) change allowance i)
+  module _ (timer : Bool) where
+    pub write-named : (change : Change) (allowance : ℕ) → write-at n timer change allowance i ≡ write (form-of c i) (named-owner timer) change allowance i
+    write-named change allowance =
+        on-named (chip-of n) c named (refused-steps SIZE i) (λ d. write (form-of d i) (named-owner timer) change allowance i)
 
-  pub read-named : (a : ℕ) → read-at n a i ≡ read (form-of c i) a i
-  read-named a = on-named (chip-of n) c named (refused-reading SIZE) (λ d. read (form-of d i) a i)
+    pub read-named : (a : ℕ) → read-at n timer a i ≡ read (form-of c i) (named-owner timer) a i
+    read-named a = on-named (chip-of n) c named (refused-reading SIZE) (λ d. read (form-of d i) (named-owner timer) a i)
 
-  pub blank-read-named : (a : ℕ) → blank-read-at n a i ≡ blank-read (form-of c i) a i
-  blank-read-named a = on-named (chip-of n) c named (refused-reading SIZE) (λ d. blank-read (form-of d i) a i)
+    pub blank-read-named : (a : ℕ) → blank-read-at n timer a i ≡ blank-read (form-of c i) (named-owner timer) a i
+    blank-read-named a = on-named (chip-of n) c named (refused-reading SIZE) (λ d. blank-read (form-of d i) (named-owner timer) a i)
 
   pub lookup-named : lookup-at n i ≡ lookup (form-of c i) i
   lookup-named = on-named (chip-of n) c named (refused-lookup SIZE) (λ d. lookup (form-of d i) i)
@@ -97,19 +100,20 @@ module _ (f : Form) (i : List ℕ) (w : wrong-size f i ≡ true) where
   unfolding recover
   recover-wrong n = stepped-refused f (store-number f i) n _ i not-ok ∙ ap (λ (k : ℕ). refused-steps k i) size-first
 
-  pub write-wrong : (c : Change) (n : ℕ) → write f c n i ≡ refused-steps SIZE i
-  unfolding write
-  write-wrong c n =
-      let e : write-number f c i ≡ SIZE = write-store f c i not-ok ∙ size-first in
-      stepped-refused f (write-number f c i) n _ i (λ z. omega arith) ∙ ap (λ (k : ℕ). refused-steps k i) e
+  module _ (o : Owner) where
+    pub write-wrong : (c : Change) (n : ℕ) → write f o c n i ≡ refused-steps SIZE i
+    unfolding write
+    write-wrong c n =
+        let e : write-number f o c i ≡ SIZE = write-store f o c i not-ok ∙ size-first in
+        stepped-refused f (write-number f o c i) n _ i (λ z. omega arith) ∙ ap (λ (k : ℕ). refused-steps k i) e
 
-  pub read-wrong : (a : ℕ) → read f a i ≡ refused-reading SIZE
-  read-wrong a = read-refused f i a not-ok ∙ ap refused-reading size-first
+    pub read-wrong : (a : ℕ) → read f o a i ≡ refused-reading SIZE
+    read-wrong a = read-refused f i o a not-ok ∙ ap refused-reading size-first
 
-  pub blank-read-wrong : (a : ℕ) → blank-read f a i ≡ refused-reading SIZE
-  blank-read-wrong a =
-      let e = read-wrong a in
-      blank-read-else f i a (λ z. let s : read f a i .number ≡ SIZE = rw e in omega arith) ∙ e
+    pub blank-read-wrong : (a : ℕ) → blank-read f o a i ≡ refused-reading SIZE
+    blank-read-wrong a =
+        let e = read-wrong a in
+        blank-read-else f i o a (λ z. let s : read f o a i .number ≡ SIZE = rw e in omega arith) ∙ e
 
   pub lookup-wrong : lookup f i ≡ refused-lookup SIZE
   lookup-wrong = lookup-refused f i not-ok ∙ ap refused-lookup size-first

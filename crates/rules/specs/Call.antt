@@ -11,6 +11,7 @@ use Rattle.rules.specs.Page.{Form, size, Chip, in-edition, State, wear-p
 use Rattle.rules.specs.Store.{states, base, used, is-open, used-orders, active-order, count, held, value, or-value, Setting, setting}
 use Rattle.rules.specs.Store.{address-of, has-room, open-group}
 use Rattle.rules.specs.Steps.{format-steps, recovery-steps, write-steps, unclean, Change, single, group, settings-of, words-of, all-values}
+use Rattle.rules.specs.Owner.{Owner, a-foreign, held-by}
 
 -- S7. how many addresses may be held; W8. the last order
 abbrev pub held-limit : ℕ
@@ -27,7 +28,7 @@ Roomy f = held-limit < f .slot-count
 abbrev pub RoomyChip : Chip → Type 0
 RoomyChip c = (held-limit < c .slot-count) × (c .first ≤ c .last)
 
--- N0 to N9. the answers by number
+-- N0 to N9, N11. the answers by number
 abbrev pub OK : ℕ
 OK = 0
 
@@ -57,6 +58,9 @@ NOT-HELD = 8
 
 abbrev pub GROUP : ℕ
 GROUP = 9
+
+abbrev pub OWNER : ℕ
+OWNER = 11
 
 -- P2. Pages of an image: n of them, each of `size` bytes.
 unfoldable pub cut : (size n : ℕ) → List ℕ → List (List Word)
@@ -140,7 +144,8 @@ unfoldable pub a-wrong-address : List Setting → Bool
 a-wrong-address [] = false
 a-wrong-address (setting a v ∷ rs) = wrong-address a || a-wrong-address rs
 
--- N6. NO ROOM: with the addresses that aren't held, more than 192 would be.
+-- N6. NO ROOM: with the addresses that aren't held, more than 192 would be; or there are such, and with them the owner would hold more
+-- than it may.
 unfoldable pub is-held : Option ℕ → Bool
 is-held none = false
 is-held (some v) = true
@@ -148,8 +153,14 @@ is-held (some v) = true
 unfoldable pub is-new : List Page → Setting → Bool
 is-new ps (setting a v) = not (is-held (value a ps))
 
+abbrev pub new-in : List Setting → List Page → ℕ
+new-in rs ps = count (is-new ps) rs
+
 unfoldable pub no-room : List Setting → List Page → Bool
-no-room rs ps = ltb held-limit (held ps + count (is-new ps) rs)
+no-room rs ps = ltb held-limit (held ps + new-in rs ps)
+
+unfoldable pub crowded : Owner → List Setting → List Page → Bool
+crowded o rs ps = not (eqb (new-in rs ps) 0) && ltb (o .most) (held-by o ps + new-in rs ps)
 
 -- N7. ORDER END: there are too few free slots, and the active order is the last.
 unfoldable pub order-end : (slots : ℕ) → List Page → Bool
@@ -164,42 +175,44 @@ unfoldable pub first-of : List Row → ℕ
 first-of [] = OK
 first-of (row n t ∷ rows) = cond t n (first-of rows)
 
--- N21. Which call gives which: recovery and lookup 1 to 3, blank read 5 besides, read 8 besides.
+-- N21. Which call gives which: recovery and lookup 1 to 3, blank read 5 and 11 besides, read 8 besides.
 unfoldable pub store-rows : (form : Form) → List ℕ → List Row
 store-rows f i = row SIZE (wrong-size f i) ∷ row NO-STORE (no-store (pages f i)) ∷ row DAMAGED (damaged (pages f i)) ∷ []
 
-unfoldable pub blank-read-rows : (form : Form) (address : ℕ) → List ℕ → List Row
-blank-read-rows f a i = store-rows f i ++ (row ADDRESS (wrong-address a) ∷ [])
+-- N11. OWNER: an address of the other owner's, of a group one of them.
+unfoldable pub blank-read-rows : (form : Form) → Owner → (address : ℕ) → List ℕ → List Row
+blank-read-rows f o a i = store-rows f i ++ (row ADDRESS (wrong-address a) ∷ row OWNER (not (o .owns a)) ∷ [])
 
-unfoldable pub read-rows : (form : Form) (address : ℕ) → List ℕ → List Row
-read-rows f a i = blank-read-rows f a i ++ (row NOT-HELD (not (is-held (value a (pages f i)))) ∷ [])
+unfoldable pub read-rows : (form : Form) → Owner → (address : ℕ) → List ℕ → List Row
+read-rows f o a i = blank-read-rows f o a i ++ (row NOT-HELD (not (is-held (value a (pages f i)))) ∷ [])
 
--- Write gives 1 to 7, of a group also 9, behind 4. N23. The held value: it is not tested for 6 and 7, so a row of OK ends the table
--- there.
-abbrev pub write-only-rows : (edition : ℕ) → Change → List Page → List Row
-write-only-rows edition c ps =
+-- Write gives 1 to 7 and 11, of a group also 9, behind 4. N23. The held value: it is not tested for 6 and 7, so a row of OK ends the
+-- table there.
+abbrev pub write-only-rows : (edition : ℕ) → Owner → Change → List Page → List Row
+write-only-rows edition o c ps =
     row UNCLEAN (is-unclean ps)
     ∷ row GROUP (wrong-group edition c)
     ∷ row ADDRESS (a-wrong-address (settings-of c))
+    ∷ row OWNER (a-foreign o (settings-of c))
     ∷ row OK (all-values (settings-of c) ps)
-    ∷ row NO-ROOM (no-room (settings-of c) ps)
+    ∷ row NO-ROOM (no-room (settings-of c) ps || crowded o (settings-of c) ps)
     ∷ row ORDER-END (order-end (length (words-of c)) ps)
     ∷ []
 
-unfoldable pub write-rows : (form : Form) → Change → List ℕ → List Row
-write-rows f c i = store-rows f i ++ write-only-rows (f .edition) c (pages f i)
+unfoldable pub write-rows : (form : Form) → Owner → Change → List ℕ → List Row
+write-rows f o c i = store-rows f i ++ write-only-rows (f .edition) o c (pages f i)
 
 unfoldable pub store-number : (form : Form) → List ℕ → ℕ
 store-number f i = first-of (store-rows f i)
 
-unfoldable pub write-number : (form : Form) → Change → List ℕ → ℕ
-write-number f c i = first-of (write-rows f c i)
+unfoldable pub write-number : (form : Form) → Owner → Change → List ℕ → ℕ
+write-number f o c i = first-of (write-rows f o c i)
 
-unfoldable pub blank-read-number : (form : Form) (address : ℕ) → List ℕ → ℕ
-blank-read-number f a i = first-of (blank-read-rows f a i)
+unfoldable pub blank-read-number : (form : Form) → Owner → (address : ℕ) → List ℕ → ℕ
+blank-read-number f o a i = first-of (blank-read-rows f o a i)
 
-unfoldable pub read-number : (form : Form) (address : ℕ) → List ℕ → ℕ
-read-number f a i = first-of (read-rows f a i)
+unfoldable pub read-number : (form : Form) → Owner → (address : ℕ) → List ℕ → ℕ
+read-number f o a i = first-of (read-rows f o a i)
 
 -- N22. What a call answers; refused, it answers nothing but its number and leaves the image.
 pub record Formatted : Type 0 where
@@ -263,23 +276,23 @@ group-of bytes = group (cond (eqb (length bytes % 3) 0) (triples bytes) [])
 unfoldable pub recover : (form : Form) (allowance : ℕ) → List ℕ → Stepped
 recover f n i = stepped f (store-number f i) n (recovery-steps (f .edition) (pages f i)) i
 
-unfoldable pub write : (form : Form) → Change → (allowance : ℕ) → List ℕ → Stepped
-write f c n i = stepped f (write-number f c i) n (write-steps (f .edition) c (pages f i)) i
+unfoldable pub write : (form : Form) → Owner → Change → (allowance : ℕ) → List ℕ → Stepped
+write f o c n i = stepped f (write-number f o c i) n (write-steps (f .edition) c (pages f i)) i
 
 -- a reading, accepted or refused
 unfoldable pub reading : (number value : ℕ) → Reading
 reading number v = record { number = number; value = cond (accepted number) v 0 }
 
 -- C17. Read: the value of the address.
-unfoldable pub read : (form : Form) (address : ℕ) → List ℕ → Reading
-read f a i = reading (read-number f a i) (or-value (value a (pages f i)) 0)
+unfoldable pub read : (form : Form) → Owner → (address : ℕ) → List ℕ → Reading
+read f o a i = reading (read-number f o a i) (or-value (value a (pages f i)) 0)
 
 -- C18. Blank read: 0 for an address that isn't held.
 unfoldable pub blank-value : Option ℕ → ℕ
 blank-value o = or-value o 0
 
-unfoldable pub blank-read : (form : Form) (address : ℕ) → List ℕ → Reading
-blank-read f a i = reading (blank-read-number f a i) (blank-value (value a (pages f i)))
+unfoldable pub blank-read : (form : Form) → Owner → (address : ℕ) → List ℕ → Reading
+blank-read f o a i = reading (blank-read-number f o a i) (blank-value (value a (pages f i)))
 
 -- C19. Pairing lookup: the blank reads of 16 to 19 are the digits, and it is paired if all four are held, whatever their values.
 unfoldable pub code : (held : ℕ → Option ℕ) → List (Option ℕ)

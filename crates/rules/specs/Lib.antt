@@ -4,6 +4,7 @@ pub mod Word
 pub mod Page
 pub mod Store
 pub mod Steps
+pub mod Owner
 pub mod Call
 pub mod Named
 pub mod Listing

@@ -1,4 +1,4 @@
--- The calls as a caller makes them: each names the page size of the image that it lends.
+-- The calls as a caller makes them: each names the page size of the image that it lends, and a write, a read or a blank read the owner.
 use Prim.Native.Nat.{ℕ}
 use mathlib.Core.Bool.{Bool, cond}
 use mathlib.Core.List.{List}
@@ -6,6 +6,7 @@ use mathlib.Core.Option.{Option, none, some}
 use lib.Dec.{eqb}
 use Rattle.rules.specs.Page.{Form, Chip, in-edition}
 use Rattle.rules.specs.Steps.{Change}
+use Rattle.rules.specs.Owner.{named-owner}
 use Rattle.rules.specs.Call.{SIZE, form-of, Formatted, Stepped, Reading, Pairing, format, recover, write, read, blank-read, lookup}
 use Rattle.rules.specs.Call.{refused-format, refused-steps, refused-reading, refused-lookup}
 
@@ -37,14 +38,15 @@ format-at n second i = on-chip (chip-of n) (refused-format SIZE i) (λ c. format
 abbrev pub recover-at : (page-size allowance : ℕ) → List ℕ → Stepped
 recover-at n allowance i = on-chip (chip-of n) (refused-steps SIZE i) (λ c. recover (form-of c i) allowance i)
 
-abbrev pub write-at : (page-size : ℕ) → Change → (allowance : ℕ) → List ℕ → Stepped
-write-at n change allowance i = on-chip (chip-of n) (refused-steps SIZE i) (λ c. write (form-of c i) change allowance i)
+abbrev pub write-at : (page-size : ℕ) (timer : Bool) → Change → (allowance : ℕ) → List ℕ → Stepped
+write-at n timer change allowance i =
+    on-chip (chip-of n) (refused-steps SIZE i) (λ c. write (form-of c i) (named-owner timer) change allowance i)
 
-abbrev pub read-at : (page-size address : ℕ) → List ℕ → Reading
-read-at n a i = on-chip (chip-of n) (refused-reading SIZE) (λ c. read (form-of c i) a i)
+abbrev pub read-at : (page-size : ℕ) (timer : Bool) (address : ℕ) → List ℕ → Reading
+read-at n timer a i = on-chip (chip-of n) (refused-reading SIZE) (λ c. read (form-of c i) (named-owner timer) a i)
 
-abbrev pub blank-read-at : (page-size address : ℕ) → List ℕ → Reading
-blank-read-at n a i = on-chip (chip-of n) (refused-reading SIZE) (λ c. blank-read (form-of c i) a i)
+abbrev pub blank-read-at : (page-size : ℕ) (timer : Bool) (address : ℕ) → List ℕ → Reading
+blank-read-at n timer a i = on-chip (chip-of n) (refused-reading SIZE) (λ c. blank-read (form-of c i) (named-owner timer) a i)
 
 abbrev pub lookup-at : (page-size : ℕ) → List ℕ → Pairing
 lookup-at n i = on-chip (chip-of n) (refused-lookup SIZE) (λ c. lookup (form-of c i) i)

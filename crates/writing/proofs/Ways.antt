@@ -14,6 +14,7 @@ use Rattle.rules.specs.Store.{Setting, address-of, states, is-cleared, count, s
 use Rattle.rules.specs.Steps.{Change, settings-of, words-of, all-values}
 use Rattle.rules.specs.Steps.{Way as Write, stay, append-to, open-at, move-to, way, way-steps, new-page}
 use Rattle.rules.specs.Steps.{append-steps, open-steps, fill-steps, move-steps, move-records, write-steps}
+use Rattle.rules.specs.Owner.{Owner}
 use Rattle.rules.specs.Call.{Roomy, first-pages, page-count, pages, store-number, write-number, accepted, repeats, a-wrong-address, no-room, triples, write}
 use Rattle.rules.proofs.Truth.{by-cases}
 use Rattle.rules.proofs.Rows.{WriteFails, write-fails}
@@ -39,7 +40,7 @@ use Rattle.writing.proofs.Parts.{part-first}
 
 -- ---- the rules' way of an accepted write may be done
 
-module _ (fm : Form) (c : Change) (i : List ℕ) where
+module _ (fm : Form) (by : Owner) (c : Change) (i : List ℕ) where
   -- a page that is moved to is one of the image's, and there is something new
   unfoldable Inside : Write → Type 0
   Inside stay = Unit {0}
@@ -47,10 +48,10 @@ module _ (fm : Form) (c : Change) (i : List ℕ) where
   Inside (open-at p o) = Unit {0}
   Inside (move-to p o) = (p < page-count fm i) × (all-values (settings-of c) (pages fm i) ≡ false)
 
-  way-inside : write-number fm c i ≡ 0 → Inside (way c (pages fm i))
+  way-inside : write-number fm by c i ≡ 0 → Inside (way c (pages fm i))
   unfolding way new-page Inside
   way-inside ok =
-      let w = write-fails fm i c ok in
+      let w = write-fails fm i by c ok in
       by-cases (all-values (settings-of c) (pages fm i)) (λ s. rw s tt)
       (λ s.
       by-cases (has-room (length (words-of c)) (pages fm i)) (λ f. rw (s, f) tt)
@@ -62,13 +63,13 @@ module _ (fm : Form) (c : Change) (i : List ℕ) where
 
   -- the write is accepted, and goes that way
   record Goes (w : Write) : Type 0 where
-    number : write-number fm c i ≡ 0
+    number : write-number fm by c i ≡ 0
     steps : write-steps (fm .edition) c (pages fm i) ≡ way-steps (fm .edition) c (pages fm i) w
     may : AllAllowed (size fm) (way-steps (fm .edition) c (pages fm i) w) i
     inside : Inside w
 
   unfoldable Means : Way → Type 0
-  Means (Refuse n) = (write-number fm c i ≡ n) × (n ≡ 0 → ⊥)
+  Means (Refuse n) = (write-number fm by c i ≡ n) × (n ≡ 0 → ⊥)
   Means Stay = Goes stay
   Means (Append p k) = Goes (append-to p k)
   Means (Open p o) = Goes (open-at p o)
@@ -81,56 +82,56 @@ module _ (fm : Form) (c : Change) (i : List ℕ) where
   goes (open-at p o) g = g
   goes (move-to p o) g = g
 
-  way-means : Roomy fm → Means (way-for fm c i)
+  way-means : Roomy fm → Means (way-for fm by c i)
   unfolding way-for accepted Means write-steps
   way-means roomy =
-      by-cases (eqb (write-number fm c i) 0)
+      by-cases (eqb (write-number fm by c i) 0)
       (λ t.
-      let ok = eqb-true (write-number fm c i) 0 t in
-      let may = write-allowed (accepted-healthy fm roomy ⊥ i (write-fails fm i c ok .stored) (λ z. absurd z)) c ok in
+      let ok = eqb-true (write-number fm by c i) 0 t in
+      let may = write-allowed (accepted-healthy fm roomy ⊥ i (write-fails fm i by c ok .stored) (λ z. absurd z)) by c ok in
       rw t (goes (way c (pages fm i)) (record { number = ok; steps = refl; may = may; inside = way-inside ok })))
-      (λ t. rw t (refl, eqb-false (write-number fm c i) 0 t))
+      (λ t. rw t (refl, eqb-false (write-number fm by c i) 0 t))
 
 -- ---- the answer
 
-module _ (fm : Form) (c : Change) (n : ℕ) (i : List ℕ) where
-  written : (w : Write) → Goes fm c i w → {j : List ℕ} {r : Stepped} → Does fm n (way-steps (fm .edition) c (pages fm i) w) i r j
-      → as-stepped r j ≡ write fm c n i
+module _ (fm : Form) (by : Owner) (c : Change) (n : ℕ) (i : List ℕ) where
+  written : (w : Write) → Goes fm by c i w → {j : List ℕ} {r : Stepped} → Does fm n (way-steps (fm .edition) c (pages fm i) w) i r j
+      → as-stepped r j ≡ write fm by c n i
   unfolding write
   written w g {j} {r} d =
       let ss = way-steps (fm .edition) c (pages fm i) w in
       rw (d .number, d .steps, d .finished, d .image)
-      (sym (stepped-done fm (write-number fm c i) n (write-steps (fm .edition) c (pages fm i)) i (g .number) ∙ rw (g .steps, length-take n ss)))
+      (sym (stepped-done fm (write-number fm by c i) n (write-steps (fm .edition) c (pages fm i)) i (g .number) ∙ rw (g .steps, length-take n ss)))
 
-  not-written : (number : ℕ) → write-number fm c i ≡ number → (number ≡ 0 → ⊥)
-      → write fm c n i ≡ record { number = number; steps = 0; finished = false; image = i }
+  not-written : (number : ℕ) → write-number fm by c i ≡ number → (number ≡ 0 → ⊥)
+      → write fm by c n i ≡ record { number = number; steps = 0; finished = false; image = i }
   unfolding write
   not-written number e ne = rw e (stepped-refused fm number n (write-steps (fm .edition) c (pages fm i)) i ne)
 
   -- ---- each way, as the call takes it
 
-  module _ (roomy : Roomy fm) {w : Way} (chosen : Chosen fm c i w) where
-    means : {x : Way} → w ≡ x → Means fm c i x
-    means e = subst (Means fm c i) (sym (chosen .is-way) ∙ e) (way-means fm c i roomy)
+  module _ (roomy : Roomy fm) {w : Way} (chosen : Chosen fm by c i w) where
+    means : {x : Way} → w ≡ x → Means fm by c i x
+    means e = subst (Means fm by c i) (sym (chosen .is-way) ∙ e) (way-means fm by c i roomy)
 
     fits : {x : Way} → w ≡ x → Fitting fm c x
     fits e = subst (Fitting fm c) e (chosen .fits)
 
     pub refusing : (number : ℕ) → w ≡ Refuse number → {r : Stepped} → (r .number ≡ number) × (r .steps ≡ 0) × (r .finished ≡ false)
-        → as-stepped r i ≡ write fm c n i
+        → as-stepped r i ≡ write fm by c n i
     unfolding Means
     refusing number e d =
-        let m : Means fm c i (Refuse number) = means e in
+        let m : Means fm by c i (Refuse number) = means e in
         rw (d .0, d .1, d .2) (sym (not-written number (m .0) (m .1)))
 
-    pub staying : w ≡ Stay → {r : Stepped} → (r .number ≡ 0) × (r .steps ≡ min n 0) × (r .finished ≡ leb 0 n) → as-stepped r i ≡ write fm c n i
+    pub staying : w ≡ Stay → {r : Stepped} → (r .number ≡ 0) × (r .steps ≡ min n 0) × (r .finished ≡ leb 0 n) → as-stepped r i ≡ write fm by c n i
     unfolding Means way-steps run
     staying e d =
-        let g : Goes fm c i stay = means e in
+        let g : Goes fm by c i stay = means e in
         written stay g (record { number = d .0; steps = d .1; finished = d .2; image = rw take-nil })
 
     module _ (p k : ℕ) (e : w ≡ Append p k) where
-      appending : Goes fm c i (append-to p k)
+      appending : Goes fm by c i (append-to p k)
       unfolding Means
       appending = means e
 
@@ -138,12 +139,12 @@ module _ (fm : Form) (c : Change) (n : ℕ) (i : List ℕ) where
       unfolding Fitting way-steps
       append-ready = let f : Fitting fm c (Append p k) = fits e in (f, allowed-take (size fm) n (append-steps p k c) i (appending .may))
 
-      pub appended : {r : Stepped} {j : List ℕ} → Does fm n (append-steps p k c) i r j → as-stepped r j ≡ write fm c n i
+      pub appended : {r : Stepped} {j : List ℕ} → Does fm n (append-steps p k c) i r j → as-stepped r j ≡ write fm by c n i
       unfolding way-steps
       appended d = written (append-to p k) appending d
 
     module _ (p o : ℕ) (e : w ≡ Open p o) where
-      opening : Goes fm c i (open-at p o)
+      opening : Goes fm by c i (open-at p o)
       unfolding Means
       opening = means e
 
@@ -151,7 +152,7 @@ module _ (fm : Form) (c : Change) (n : ℕ) (i : List ℕ) where
       unfolding Fitting way-steps
       open-ready = let f : Fitting fm c (Open p o) = fits e in (f, allowed-take (size fm) n (open-steps p o c) i (opening .may))
 
-      pub opened : {r : Stepped} {j : List ℕ} → Does fm n (open-steps p o c) i r j → as-stepped r j ≡ write fm c n i
+      pub opened : {r : Stepped} {j : List ℕ} → Does fm n (open-steps p o c) i r j → as-stepped r j ≡ write fm by c n i
       unfolding way-steps
       opened d = written (open-at p o) opening d
 
@@ -161,27 +162,27 @@ pub with-marks : (s : List ℕ) → Lent true s
 unfolding Lent
 with-marks s e = absurd (true≢false e)
 
-module _ (fm : Form) (marks : Bool) (s : List ℕ) (lent : Lent marks s) (n : ℕ) (i : List ℕ) (roomy : Roomy fm) {w : Way}
-    (chosen : Chosen fm (change-of marks s) i w) where
+module _ (fm : Form) (by : Owner) (marks : Bool) (s : List ℕ) (lent : Lent marks s) (n : ℕ) (i : List ℕ) (roomy : Roomy fm) {w : Way}
+    (chosen : Chosen fm by (change-of marks s) i w) where
   abbrev ch : Change
   ch = change-of marks s
 
-  right-by : {x : Write} → Goes fm ch i x → Right (fm .edition) marks s
-  right-by g = record { lent = lent; grouped = write-fails fm i ch (g .number) .grouped }
+  right-by : {x : Write} → Goes fm by ch i x → Right (fm .edition) marks s
+  right-by g = record { lent = lent; grouped = write-fails fm i by ch (g .number) .grouped }
 
   pub append-right : (p k : ℕ) → w ≡ Append p k → Right (fm .edition) marks s
-  append-right p k e = right-by (appending fm ch n i roomy chosen p k e)
+  append-right p k e = right-by (appending fm by ch n i roomy chosen p k e)
 
   pub open-right : (p o : ℕ) → w ≡ Open p o → Right (fm .edition) marks s
-  open-right p o e = right-by (opening fm ch n i roomy chosen p o e)
+  open-right p o e = right-by (opening fm by ch n i roomy chosen p o e)
 
   module _ (p o : ℕ) (e : w ≡ Move p o) {t : Store} {xs ys : List ℕ} (h : Opens fm i t xs ys) where
-    moving : Goes fm ch i (move-to p o)
+    moving : Goes fm by ch i (move-to p o)
     unfolding Means
-    moving = means fm ch n i roomy chosen e
+    moving = means fm by ch n i roomy chosen e
 
-    passed : WriteFails fm i ch
-    passed = write-fails fm i ch (moving .number)
+    passed : WriteFails fm i by ch
+    passed = write-fails fm i by ch (moving .number)
 
     right : store-number fm i ≡ 0
     right = passed .stored
@@ -218,7 +219,7 @@ module _ (fm : Form) (marks : Bool) (s : List ℕ) (lent : Lent marks s) (n : �
         × (length s ≤ 26)
     unfolding Fitting Inside
     move-fits =
-        let f : Fitting fm ch (Move p o) = fits fm ch n i roomy chosen e in
+        let f : Fitting fm ch (Move p o) = fits fm by ch n i roomy chosen e in
         let sized = right-sizes fm i (size-right fm i right) .sized in (
           rw count-is (moving .inside .0),
           look-few (h .holding zero-number .told) right,
@@ -236,6 +237,6 @@ module _ (fm : Form) (marks : Bool) (s : List ℕ) (lent : Lent marks s) (n : �
         rw copies-are (part-first (size fm) n (fill-steps p o cs) _ i whole)
 
     pub moved-all : {r : Stepped} {j : List ℕ} → Does fm n (move-steps (fm .edition) p o copying (first-pages fm (t .look .count) i)) i r j
-        → as-stepped r j ≡ write fm ch n i
+        → as-stepped r j ≡ write fm by ch n i
     unfolding way-steps pages
-    moved-all {r} {j} d = written fm ch n i (move-to p o) moving (rw (copies-are, count-is) at d)
+    moved-all {r} {j} d = written fm by ch n i (move-to p o) moving (rw (copies-are, count-is) at d)

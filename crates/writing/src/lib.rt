@@ -17,6 +17,7 @@ ghost use lib.ListN.{length, take};
 ghost use Rattle.rules.specs.Flash.{AllAllowed};
 ghost use Rattle.rules.specs.Word.{mark-word};
 ghost use Rattle.rules.specs.Steps.{slots-steps, single, words-of, append-steps, open-steps, fill-steps, other, move-steps};
+ghost use Rattle.rules.specs.Owner.{named-owner};
 ghost use Rattle.rules.specs.Call.{first-pages, format, recover, write, triples, group-of};
 ghost use Rattle.rules.specs.Page.{size};
 ghost use Rattle.pages.specs.Read.{as-form, Lawful};
@@ -331,14 +332,22 @@ fn move_to<'a>(
 }
 
 // The steps of a change that the image at the call fixes, by one look at it.
-fn change(image: &mut [u8], form: Form, entries: &[u8], marks: bool, allowance: u16) -> Stepped
+fn change(
+    image: &mut [u8],
+    form: Form,
+    timer: bool,
+    entries: &[u8],
+    marks: bool,
+    allowance: u16,
+) -> Stepped
     requires { ⌜ Lawful form × Lent marks (now entries) ⌝ }
-    ensures { λ r. ⌜ as-stepped r (now (image .exit)) ≡ write (as-form form) (change-of marks (now (entries .entry))) allowance (now (image .entry)) ⌝ }
+    ensures { λ r. ⌜ as-stepped r (now (image .exit))
+        ≡ write (as-form form) (named-owner timer) (change-of marks (now (entries .entry))) allowance (now (image .entry)) ⌝ }
 {
     let mut addresses = [NO_ADDRESS; HELD_MAX];
     let mut values = [NO_VALUE; HELD_MAX];
     let store = store::open(image, form, &mut addresses, &mut values);
-    match choosing::choose(store, form, &addresses, &values, entries, marks) {
+    match choosing::choose(store, form, timer, &addresses, &values, entries, marks) {
         Way::Refuse(number) => refused(number),
         Way::Stay => done(0, allowance),
         Way::Append(page, slot) => append(image, form, page, slot, entries, marks, allowance),
@@ -363,17 +372,31 @@ fn change(image: &mut [u8], form: Form, entries: &[u8], marks: bool, allowance: 
 }
 
 // A single setting is lent as a group is, without marks.
-pub fn write(image: &mut [u8], form: Form, address: u16, value: u8, allowance: u16) -> Stepped
+pub fn write(
+    image: &mut [u8],
+    form: Form,
+    timer: bool,
+    address: u16,
+    value: u8,
+    allowance: u16,
+) -> Stepped
     requires { ⌜ Lawful form ⌝ }
-    ensures { λ r. ⌜ as-stepped r (now (image .exit)) ≡ write (as-form form) (single address value) allowance (now (image .entry)) ⌝ }
+    ensures { λ r. ⌜ as-stepped r (now (image .exit)) ≡ write (as-form form) (named-owner timer) (single address value) allowance (now (image .entry)) ⌝ }
 {
     let entry = [(address % 256) as u8, (address / 256) as u8, value];
-    change(image, form, &entry, false, allowance)
+    change(image, form, timer, &entry, false, allowance)
 }
 
-pub fn write_group(image: &mut [u8], form: Form, entries: &[u8], allowance: u16) -> Stepped
+pub fn write_group(
+    image: &mut [u8],
+    form: Form,
+    timer: bool,
+    entries: &[u8],
+    allowance: u16,
+) -> Stepped
     requires { ⌜ Lawful form ⌝ }
-    ensures { λ r. ⌜ as-stepped r (now (image .exit)) ≡ write (as-form form) (group-of (now (entries .entry))) allowance (now (image .entry)) ⌝ }
+    ensures { λ r. ⌜ as-stepped r (now (image .exit))
+        ≡ write (as-form form) (named-owner timer) (group-of (now (entries .entry))) allowance (now (image .entry)) ⌝ }
 {
-    change(image, form, entries, true, allowance)
+    change(image, form, timer, entries, true, allowance)
 }

@@ -175,12 +175,12 @@ impl Plan for WrongChip {
         Ok(self.done(image, recovery_steps(&self.seen(image, chip), chip)?))
     }
 
-    fn change_steps(&self, image: &[u8], chip: Chip, change: &Change) -> Result<Vec<Step>, u8> {
+    fn change_steps(&self, image: &[u8], chip: Chip, timer: bool, change: &Change) -> Result<Vec<Step>, u8> {
         if *self == WrongChip::SlotsOfSmaller && chip == LARGER {
-            return Ok(on_larger(change_steps(&fronts(image), SMALLER, change)?));
+            return Ok(on_larger(change_steps(&fronts(image), SMALLER, timer, change)?));
         }
         let seen = self.seen(image, chip);
-        let right = test_change(&seen, chip, change);
+        let right = test_change(&seen, chip, timer, change);
         let refused = matches!(right, Err(SIZE | NO_STORE | DAMAGED | UNCLEAN));
         if *self == WrongChip::NoGroups && chip == LARGER && matches!(change, Change::Group(_)) && !refused {
             return Err(GROUP);

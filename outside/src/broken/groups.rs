@@ -217,9 +217,9 @@ impl Plan for WrongGroup {
         }
     }
 
-    fn change_steps(&self, image: &[u8], chip: Chip, change: &Change) -> Result<Vec<Step>, u8> {
+    fn change_steps(&self, image: &[u8], chip: Chip, timer: bool, change: &Change) -> Result<Vec<Step>, u8> {
         let seen = self.seen(image, chip);
-        self.test(&seen, chip, change)?;
+        self.test(&seen, chip, timer, change)?;
         Ok(self.renewed(&seen, chip, self.steps(&seen, chip, change)))
     }
 
@@ -242,8 +242,8 @@ impl Plan for WrongGroup {
 }
 
 impl WrongGroup {
-    fn test(self, seen: &[u8], chip: Chip, change: &Change) -> Result<(), u8> {
-        let right = test_change(seen, chip, change);
+    fn test(self, seen: &[u8], chip: Chip, timer: bool, change: &Change) -> Result<(), u8> {
+        let right = test_change(seen, chip, timer, change);
         if matches!(right, Err(SIZE | NO_STORE | DAMAGED)) {
             return right;
         }
@@ -258,18 +258,18 @@ impl WrongGroup {
             (WrongGroup::FirstTakesGroups, Err(GROUP)) if edition(seen, chip) == Edition::First => {
                 let mut second = seen.to_vec();
                 put_into(&mut second, chip, Edition::Second);
-                test_change(&second, chip, change)
+                test_change(&second, chip, timer, change)
             }
             (WrongGroup::NoneTaken, Err(GROUP)) if settings.is_empty() && edition(seen, chip).has_groups() => Ok(()),
             (WrongGroup::NineTaken, Err(GROUP)) if settings.len() == 9 => {
-                test_change(seen, chip, &Change::Group(settings[..8].to_vec()))
+                test_change(seen, chip, timer, &Change::Group(settings[..8].to_vec()))
             }
-            (WrongGroup::RepeatedTaken, Err(GROUP)) if few => test_change(seen, chip, &each_once(settings)),
+            (WrongGroup::RepeatedTaken, Err(GROUP)) if few => test_change(seen, chip, timer, &each_once(settings)),
             (WrongGroup::RepeatedApartTaken, Err(GROUP)) if few && neighbours_differ(settings) => {
-                test_change(seen, chip, &each_once(settings))
+                test_change(seen, chip, timer, &each_once(settings))
             }
             (WrongGroup::FirstAddressTested, Err(ADDRESS)) if settings[0].0 != NO_ADDRESS => Ok(()),
-            (WrongGroup::NewCountAsOne, Err(NO_ROOM)) if held(seen, chip).len() < MOST_HELD => Ok(()),
+            (WrongGroup::NewCountAsOne, Err(NO_ROOM)) if has_room_for_one(seen, chip, timer) => Ok(()),
             (WrongGroup::HeldCountAsNew, Ok(()) | Err(ORDER_END))
                 if grouped && held(seen, chip).len() + settings.len() > MOST_HELD =>
             {
@@ -521,6 +521,11 @@ fn with_a_full_page(image: &[u8], chip: Chip) -> Vec<u8> {
 /// Whether the change needs a page for which there is no order.
 fn is_at_the_end(image: &[u8], chip: Chip, change: &Change) -> bool {
     active_page(image, chip).order == LAST_ORDER && free_slots_of_active(image, chip) < change.words().len()
+}
+
+fn has_room_for_one(image: &[u8], chip: Chip, timer: bool) -> bool {
+    let held = held(image, chip);
+    held.len() < MOST_HELD && held_by(&held, timer) < MOST_HELD_BY_OWNER
 }
 
 fn has_dead_group(image: &[u8], chip: Chip) -> bool {

@@ -9,9 +9,10 @@ use denote.Ref.{now}
 use borrow.Author.Needs.{needs}
 use Rattle.rules.specs.Page.{Form}
 use Rattle.rules.specs.Store.{Setting}
-use Rattle.rules.specs.Steps.{Change}
+use Rattle.rules.specs.Steps.{Change, settings-of}
+use Rattle.rules.specs.Owner.{Owner, named-owner, a-foreign}
 use Rattle.rules.specs.Call.{pages, store-number, is-unclean, wrong-group, a-wrong-address, triples}
-use Rattle.rules.proofs.Answers.{write-store, write-unclean, write-group, write-last}
+use Rattle.rules.proofs.Answers.{write-store, write-unclean, write-group, write-last, write-foreign}
 use Rattle.pages.specs.Read.{as-form}
 use Rattle.survey.specs.Look.{Told}
 use Rattle.store.specs.Opened.{Opens}
@@ -28,6 +29,9 @@ form c = as-form (c .args .form)
 
 abbrev change : tie.Start → Change
 change c = change-of (c .args .marks) (now (c .args .entries))
+
+abbrev owner : tie.Start → Owner
+owner c = named-owner (c .args .timer)
 
 abbrev lent : tie.Start → List Setting
 lent c = triples (now (c .args .entries))
@@ -65,6 +69,20 @@ third c = c .before .before
 right : (c : tie.Else4) → let s = first (second (third c)) in wrong-group (form s .edition) (change s) ≡ false
 right c = sym (c .before .is-wrong .ensures) ∙ c .if4 .left
 
+-- and no address is wrong
+abbrev fourth : tie.Else5 → tie.Else4
+fourth c = c .before .before
+
+module _ (c : tie.Else4) where
+  abbrev start : tie.Start
+  start = first (second (third c))
+
+  same-settings : settings-of (change start) ≡ lent start
+  same-settings = change-settings (start .args .form .edition) (start .args .marks) (now (start .args .entries)) (start .pre .1) (right c)
+
+far : (c : tie.Else5) → a-wrong-address (lent (start (fourth c))) ≡ false
+far c = sym (c .before .a-wrong-address .ensures) ∙ c .if5 .left
+
 -- ---- the needs
 
 returns : tie.Need-returns
@@ -72,8 +90,8 @@ returns c =
     λ i xs ys o.
     let s = c .before .before in
     let ne = c .if1 .taken in
-    tested (form s) (change s) (lent s) i (s .args .store .number) ne
-    (write-store (form s) (change s) i (λ e. ne (o .number ∙ e)) ∙ sym (o .number))
+    tested (form s) (owner s) (change s) (lent s) i (s .args .store .number) ne
+    (write-store (form s) (owner s) (change s) i (λ e. ne (o .number ∙ e)) ∙ sym (o .number))
 
 add-if2 : tie.Need-add-if2
 add-if2 c = let s = first (c .before) in omega (arith, s .pre .0 (c .before .if1 .left))
@@ -83,8 +101,8 @@ returns-2 c =
     λ i xs ys o.
     let k = c .before .before .before in
     let s = first k in
-    tested (form s) (change s) (lent s) i 4 (λ e. omega arith)
-    (write-unclean (form s) (change s) i (ok k o) (some-unclean (told k o) (ok k o) (omega arith)))
+    tested (form s) (owner s) (change s) (lent s) i 4 (λ e. omega arith)
+    (write-unclean (form s) (owner s) (change s) i (ok k o) (some-unclean (told k o) (ok k o) (omega arith)))
 
 returns-3 : tie.Need-returns-3
 returns-3 c =
@@ -94,7 +112,7 @@ returns-3 c =
     let open-there =
     by-group (told k o) (ok k o) (s .args .store .group) (o .holding (k .if1 .left) .grouped) (omega arith) ∙ c .if3 .taken
     in
-    tested (form s) (change s) (lent s) i 4 (λ e. omega arith) (write-unclean (form s) (change s) i (ok k o) open-there)
+    tested (form s) (owner s) (change s) (lent s) i 4 (λ e. omega arith) (write-unclean (form s) (owner s) (change s) i (ok k o) open-there)
 
 is-wrong-requires : tie.Need-is-wrong-requires
 is-wrong-requires c κs = search needs
@@ -104,8 +122,8 @@ returns-4 c =
     λ i xs ys o.
     let t = c .before .before in
     let s = first (second t) in
-    tested (form s) (change s) (lent s) i 9 (λ e. omega arith)
-    (write-group (form s) (change s) i (ok (second t) o) (clean t o) (sym (c .before .is-wrong .ensures) ∙ c .if4 .taken))
+    tested (form s) (owner s) (change s) (lent s) i 9 (λ e. omega arith)
+    (write-group (form s) (owner s) (change s) i (ok (second t) o) (clean t o) (sym (c .before .is-wrong .ensures) ∙ c .if4 .taken))
 
 a-wrong-address-requires : tie.Need-a-wrong-address-requires
 a-wrong-address-requires c κs = search needs
@@ -115,18 +133,33 @@ returns-5 c =
     λ i xs ys o.
     let g = c .before .before in
     let t = third g in
-    let s = first (second t) in
-    let of = change-settings (s .args .form .edition) (s .args .marks) (now (s .args .entries)) (s .pre .1) (right g) in
-    let wrong = ap a-wrong-address of ∙ sym (c .before .a-wrong-address .ensures) ∙ c .if5 .taken in
-    tested (form s) (change s) (lent s) i 5 (λ e. omega arith) (write-last (form s) (change s) i (ok (second t) o) (clean t o) (right g) wrong)
+    let s = start g in
+    let wrong = ap a-wrong-address (same-settings g) ∙ sym (c .before .a-wrong-address .ensures) ∙ c .if5 .taken in
+    tested (form s) (owner s) (change s) (lent s) i 5 (λ e. omega arith)
+    (write-last (form s) (owner s) (change s) i (ok (second t) o) (clean t o) (right g) wrong)
+
+a-foreign-requires : tie.Need-a-foreign-requires
+a-foreign-requires c κs = search needs
 
 returns-6 : tie.Need-returns-6
 returns-6 c =
     λ i xs ys o.
-    let g = c .before .before in
+    let f = c .before .before in
+    let g = fourth f in
     let t = third g in
-    let s = first (second t) in
-    passed (form s) (change s) (lent s) i (ok (second t) o) (clean t o) (right g) (sym (c .before .a-wrong-address .ensures) ∙ c .if5 .left)
+    let s = start g in
+    let foreign = ap (a-foreign (owner s)) (same-settings g) ∙ sym (c .before .a-foreign .ensures) ∙ c .if6 .taken in
+    tested (form s) (owner s) (change s) (lent s) i 11 (λ e. omega arith)
+    (write-foreign (form s) (owner s) (change s) i (ok (second t) o) (clean t o) (right g) (ap a-wrong-address (same-settings g) ∙ far f) foreign)
+
+returns-7 : tie.Need-returns-7
+returns-7 c =
+    λ i xs ys o.
+    let f = c .before .before in
+    let g = fourth f in
+    let t = third g in
+    let s = start g in
+    passed (form s) (owner s) (change s) (lent s) i (ok (second t) o) (clean t o) (right g) (far f) (sym (c .before .a-foreign .ensures) ∙ c .if6 .left)
 
 pub first-tests-spec : {M : Type 1} → statement M
 first-tests-spec =
@@ -140,4 +173,6 @@ first-tests-spec =
     returns-4
     a-wrong-address-requires
     returns-5
-    returns-6)
+    a-foreign-requires
+    returns-6
+    returns-7)

@@ -1,6 +1,7 @@
 -- `istrovell::istrovell_read` meets its contract: the image is read by the form that it has at the page size. Assumes nothing.
 use denote.Ref.{now}
 use borrow.Author.Needs.{needs}
+use Rattle.rules.specs.Owner.{named-owner}
 use Rattle.rules.specs.Call.{SIZE, refused-reading, read}
 use Rattle.rules.proofs.Named.{read-wrong}
 use Rattle.survey.proofs.Sizes.{sized-lawful, sized-right, sized-wrong}
@@ -13,7 +14,8 @@ returns c =
     let sized = known .before .before in
     let a = sized .before .before .args in
     let i = now (a .image) in
-    sized-right (a .page-size) i (sized .form-at .ensures) (refused-reading SIZE) (λ f. read f (a .address) i) (known .form .given .1)
+    let o = named-owner (a .timer) in
+    sized-right (a .page-size) i (sized .form-at .ensures) (refused-reading SIZE) (λ f. read f o (a .address) i) (known .form .given .1)
     (c .read .ensures)
 
 returns-2 : tie.Need-returns-2
@@ -21,8 +23,9 @@ returns-2 c =
     let sized = c .before .before .before in
     let a = sized .before .before .args in
     let i = now (a .image) in
-    sized-wrong (a .page-size) i (sized .form-at .ensures) (refused-reading SIZE) (λ f. read f (a .address) i) (c .before .enum-told .given .1)
-    (λ f w. read-wrong f i w (a .address)) (c .refused .ensures)
+    let o = named-owner (a .timer) in
+    sized-wrong (a .page-size) i (sized .form-at .ensures) (refused-reading SIZE) (λ f. read f o (a .address) i) (c .before .enum-told .given .1)
+    (λ f w. read-wrong f i w o (a .address)) (c .refused .ensures)
 
 form-at-requires : tie.Need-form-at-requires
 form-at-requires c κs = search needs

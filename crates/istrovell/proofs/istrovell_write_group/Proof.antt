@@ -1,6 +1,7 @@
 -- `istrovell::istrovell_write_group` meets its contract: the image is read by the form that it has at the page size. Assumes nothing.
 use denote.Ref.{now}
 use borrow.Author.Needs.{needs}
+use Rattle.rules.specs.Owner.{named-owner}
 use Rattle.rules.specs.Call.{SIZE, refused-steps, write, group-of}
 use Rattle.rules.proofs.Named.{write-wrong}
 use Rattle.survey.proofs.Sizes.{sized-lawful, sized-right, sized-wrong}
@@ -14,8 +15,9 @@ returns c =
     let sized = known .before .before in
     let a = sized .before .before .before .before .args in
     let i = now (a .image) in
+    let o = named-owner (a .timer) in
     let ch = group-of (now (a .group)) in
-    sized-right (a .page-size) i (sized .form-at .ensures) (refused-steps SIZE i) (λ f. write f ch (a .allowance) i) (known .form .given .1)
+    sized-right (a .page-size) i (sized .form-at .ensures) (refused-steps SIZE i) (λ f. write f o ch (a .allowance) i) (known .form .given .1)
     (called .write-group .ensures)
 
 returns-2 : tie.Need-returns-2
@@ -23,9 +25,10 @@ returns-2 c =
     let sized = c .before .before .before in
     let a = sized .before .before .before .before .args in
     let i = now (a .image) in
+    let o = named-owner (a .timer) in
     let ch = group-of (now (a .group)) in
-    sized-wrong (a .page-size) i (sized .form-at .ensures) (refused-steps SIZE i) (λ f. write f ch (a .allowance) i) (c .before .enum-told .given .1)
-    (λ f w. write-wrong f i w ch (a .allowance)) (let r = c .refused .ensures in rw (r .0, r .1, r .2))
+    sized-wrong (a .page-size) i (sized .form-at .ensures) (refused-steps SIZE i) (λ f. write f o ch (a .allowance) i) (c .before .enum-told .given .1)
+    (λ f w. write-wrong f i w o ch (a .allowance)) (let r = c .refused .ensures in rw (r .0, r .1, r .2))
 
 form-at-requires : tie.Need-form-at-requires
 form-at-requires c κs = search needs

@@ -6,6 +6,7 @@ use denote.Ref.{now}
 use borrow.Author.Needs.{needs}
 use Rattle.rules.specs.Page.{Form}
 use Rattle.rules.specs.Steps.{Change}
+use Rattle.rules.specs.Owner.{Owner, named-owner}
 use Rattle.rules.specs.Call.{Roomy}
 use Rattle.pages.specs.Read.{as-form}
 use Rattle.settings.proofs.Tables.{holds-none}
@@ -30,6 +31,9 @@ module _ (c : tie.After-choose) where
   abbrev form : Form
   form = as-form (entry .args .form)
 
+  abbrev owner : Owner
+  owner = named-owner (entry .args .timer)
+
   abbrev marks : Bool
   marks = entry .args .marks
 
@@ -51,7 +55,7 @@ module _ (c : tie.After-choose) where
   opens : Opens form image (opened-from .«open» .result) (opened-from .«open» .last .1 .1 .0) (opened-from .«open» .last .1 .1 .1 .0)
   opens = opened-from .«open» .ensures
 
-  chosen : Chosen form written image (c .choose .result)
+  chosen : Chosen form owner written image (c .choose .result)
   chosen = c .choose .ensures image opens
 
 -- ---- the needs
@@ -84,8 +88,8 @@ append-requires : tie.Need-append-requires
 append-requires c κs =
     let w = c .before .before .before .before in
     let g = c .before .before .page .given in
-    let r = append-ready (form w) (written w) (allowance w) (image w) (roomy w) (chosen w) (g .0 .0) (g .0 .1 .0) (g .1) in
-    let right = append-right (form w) (marks w) (bytes w) (lent w) (allowance w) (image w) (roomy w) (chosen w) (g .0 .0) (g .0 .1 .0) (g .1) in
+    let r = append-ready (form w) (owner w) (written w) (allowance w) (image w) (roomy w) (chosen w) (g .0 .0) (g .0 .1 .0) (g .1) in
+    let right = append-right (form w) (owner w) (marks w) (bytes w) (lent w) (allowance w) (image w) (roomy w) (chosen w) (g .0 .0) (g .0 .1 .0) (g .1) in
     ((entry w .pre .0, r .0 .0, right, r .0 .1), r .1)
 
 enum-known-page-2 : tie.Need-enum-known-page-2
@@ -95,8 +99,8 @@ open-page-requires : tie.Need-open-page-requires
 open-page-requires c κs =
     let w = c .before .before .before .before in
     let g = c .before .before .page2 .given in
-    let r = open-ready (form w) (written w) (allowance w) (image w) (roomy w) (chosen w) (g .0 .0) (g .0 .1 .0) (g .1) in
-    let right = open-right (form w) (marks w) (bytes w) (lent w) (allowance w) (image w) (roomy w) (chosen w) (g .0 .0) (g .0 .1 .0) (g .1) in
+    let r = open-ready (form w) (owner w) (written w) (allowance w) (image w) (roomy w) (chosen w) (g .0 .0) (g .0 .1 .0) (g .1) in
+    let right = open-right (form w) (owner w) (marks w) (bytes w) (lent w) (allowance w) (image w) (roomy w) (chosen w) (g .0 .0) (g .0 .1 .0) (g .1) in
     ((entry w .pre .0, r .0 .0, r .0 .1, right), r .1)
 
 enum-known-page-3 : tie.Need-enum-known-page-3
@@ -108,11 +112,11 @@ move-to-requires c κs =
     let g = c .before .before .before .before .page3 .given in
     let p = g .0 .0 in
     let o = g .0 .1 .0 in
-    let f = move-fits (form w) (marks w) (bytes w) (lent w) (allowance w) (image w) (roomy w) (chosen w) p o (g .1) (opens w) in (
+    let f = move-fits (form w) (owner w) (marks w) (bytes w) (lent w) (allowance w) (image w) (roomy w) (chosen w) p o (g .1) (opens w) in (
       (entry w .pre .0, f .0, f .1, f .2, f .3, f .4, f .5),
       (
-        tabled (form w) (marks w) (bytes w) (lent w) (allowance w) (image w) (roomy w) (chosen w) p o (g .1) (opens w),
-        move-ready (form w) (marks w) (bytes w) (lent w) (allowance w) (image w) (roomy w) (chosen w) p o (g .1) (opens w),
+        tabled (form w) (owner w) (marks w) (bytes w) (lent w) (allowance w) (image w) (roomy w) (chosen w) p o (g .1) (opens w),
+        move-ready (form w) (owner w) (marks w) (bytes w) (lent w) (allowance w) (image w) (roomy w) (chosen w) p o (g .1) (opens w),
       ),
     )
 
@@ -123,7 +127,7 @@ returns : tie.Need-returns
 returns c =
     let w = c .before .before .before .before in
     let g = c .before .before .number .given in
-    refusing (form w) (written w) (allowance w) (image w) (roomy w) (chosen w) (g .0 .0) (g .1) (c .refused .ensures)
+    refusing (form w) (owner w) (written w) (allowance w) (image w) (roomy w) (chosen w) (g .0 .0) (g .1) (c .refused .ensures)
 
 same-length-2 : tie.Need-same-length-2
 same-length-2 c = search needs
@@ -131,7 +135,7 @@ same-length-2 c = search needs
 returns-2 : tie.Need-returns-2
 returns-2 c =
     let w = c .before .before .before in
-    staying (form w) (written w) (allowance w) (image w) (roomy w) (chosen w) (c .before .enum-told .given .1) (c .done .ensures)
+    staying (form w) (owner w) (written w) (allowance w) (image w) (roomy w) (chosen w) (c .before .enum-told .given .1) (c .done .ensures)
 
 same-length-3 : tie.Need-same-length-3
 same-length-3 c = search needs
@@ -141,7 +145,7 @@ returns-3 c =
     let done = c .before .before in
     let w = done .before .before .before .before .before in
     let g = done .before .before .before .page .given in
-    appended (form w) (written w) (allowance w) (image w) (roomy w) (chosen w) (g .0 .0) (g .0 .1 .0) (g .1) (done .append .ensures)
+    appended (form w) (owner w) (written w) (allowance w) (image w) (roomy w) (chosen w) (g .0 .0) (g .0 .1 .0) (g .1) (done .append .ensures)
 
 same-length-4 : tie.Need-same-length-4
 same-length-4 c = search needs
@@ -151,7 +155,7 @@ returns-4 c =
     let done = c .before .before in
     let w = done .before .before .before .before .before in
     let g = done .before .before .before .page2 .given in
-    opened (form w) (written w) (allowance w) (image w) (roomy w) (chosen w) (g .0 .0) (g .0 .1 .0) (g .1) (done .open-page .ensures)
+    opened (form w) (owner w) (written w) (allowance w) (image w) (roomy w) (chosen w) (g .0 .0) (g .0 .1 .0) (g .1) (done .open-page .ensures)
 
 same-length-5 : tie.Need-same-length-5
 same-length-5 c = search needs
@@ -161,7 +165,7 @@ returns-5 c =
     let done = c .before .before in
     let w = done .before .before .before .before .before .before .before in
     let g = done .before .before .before .before .before .page3 .given in
-    moved-all (form w) (marks w) (bytes w) (lent w) (allowance w) (image w) (roomy w) (chosen w) (g .0 .0) (g .0 .1 .0) (g .1) (opens w)
+    moved-all (form w) (owner w) (marks w) (bytes w) (lent w) (allowance w) (image w) (roomy w) (chosen w) (g .0 .0) (g .0 .1 .0) (g .1) (opens w)
     (done .move-to .ensures)
 
 pub change-spec : {M : Type 1} → statement M

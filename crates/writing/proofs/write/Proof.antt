@@ -5,6 +5,7 @@ use native.Mathlib.Omega.{arith}
 use denote.Ref.{now}
 use borrow.Author.Needs.{needs}
 use Rattle.rules.specs.Steps.{single}
+use Rattle.rules.specs.Owner.{named-owner}
 use Rattle.rules.specs.Call.{write}
 use Rattle.pages.specs.Read.{as-form}
 use Rattle.choosing.specs.Way.{change-of, Lent}
@@ -14,11 +15,11 @@ use Rattle.writing.proofs.write.Tie as tie
 whole : (a : ℕ) → a % 256 + 256 * (a / 256) ≡ a
 whole a = omega arith
 
-cast-t8 : tie.Need-cast-t8
-cast-t8 c = search needs
+cast-t9 : tie.Need-cast-t9
+cast-t9 c = search needs
 
-cast-t10 : tie.Need-cast-t10
-cast-t10 c = search needs
+cast-t11 : tie.Need-cast-t11
+cast-t11 c = search needs
 
 slice-aggregate-change : tie.Need-slice-aggregate-change
 slice-aggregate-change c = search needs
@@ -35,7 +36,8 @@ unfolding change-of
 returns c =
     let d = c .before .before in
     let a = d .before .before .before .before .args in
-    d .change .ensures ∙ ap (λ (x : ℕ). write (as-form (a .form)) (single x (a .value)) (a .allowance) (now (a .image))) (whole (a .address))
+    let o = named-owner (a .timer) in
+    d .change .ensures ∙ ap (λ (x : ℕ). write (as-form (a .form)) o (single x (a .value)) (a .allowance) (now (a .image))) (whole (a .address))
 
 pub write-spec : {M : Type 1} → statement M
-write-spec = tie.close (tie.spec cast-t8 cast-t10 slice-aggregate-change change-requires same-length returns)
+write-spec = tie.close (tie.spec cast-t9 cast-t11 slice-aggregate-change change-requires same-length returns)
