@@ -21,7 +21,8 @@
  *   a format empties the store for both, a recovery serves both, and the pairing code is the handset's.
  *   Neither comes to hold more than 128 addresses: a write of a new one beyond that is ISTROVELL_NO_ROOM. As 64 of the 192
  *   are then left, a write that leaves its owner with at most 64 is never told ISTROVELL_NO_ROOM, whatever the other does. A
- *   store from before this limit may hold more than 128 of one: that is no fault, and what is held can be changed.
+ *   store from before this limit may hold more than 128 of one: that is no fault, and what is held can be changed, but the
+ *   other may find fewer than 64 left.
  *   As long as its writes finish, what a program reads depends on them alone. But the pages are shared: whether a write needs
  *   recovery first, how many steps it has and whether it moves all settings depends on both. One call runs at a time.
  *
