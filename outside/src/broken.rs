@@ -11,10 +11,12 @@ use crate::{Pairing, Reading, Second, Stepped, Store};
 mod chips;
 mod groups;
 mod owners;
+mod wears;
 
 pub use chips::{WrongChip, WRONG_CHIPS};
 pub use groups::{WrongGroup, WRONG_GROUPS};
 pub use owners::{WrongOwner, WRONG_OWNERS};
+pub use wears::WrongWear;
 
 #[derive(Clone, Copy, Debug, PartialEq, Eq)]
 pub enum Broken {

@@ -4,7 +4,8 @@
 //! The rules are in `word` (four bytes), `page` (1,024 or 2,048 bytes, by the chip) and `rules` (a whole image). The calls
 //! are there twice: `second` does them on the image as it goes, `steps` lists the steps beforehand. The rest serves the
 //! tests: `images` makes images from seeds, `cases` tells what they have, `failing` makes steps fail, `guard` lends an image
-//! and a group between unreadable pages, and `broken` has stores and listings that the tests must catch.
+//! and a group between unreadable pages, and `broken` has stores and listings that the tests must catch. The example `wear`
+//! wears stores out for `bench/wear`.
 //!
 //! `cargo test --release` tests the second implementation against itself; `ISTROVELL_LIB=directory cargo test --release
 //! --features library` tests the library `libistrovell.a` of that directory against it. ISTROVELL_IMAGES says how many

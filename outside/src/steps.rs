@@ -87,7 +87,7 @@ pub fn slots_steps(chip: Chip, page: usize, first: usize, words: &[Word]) -> Vec
     words.iter().enumerate().flat_map(|(place, &word)| slot_steps(chip, page, first + place, word)).collect()
 }
 
-fn renew_steps(chip: Chip, page: usize, wear: u16, edition: Edition) -> [Step; 3] {
+pub fn renew_steps(chip: Chip, page: usize, wear: u16, edition: Edition) -> [Step; 3] {
     let [first, second] = header_steps(chip, page, WEAR_OFFSET, wear_word(wear, edition));
     [Step::Erase { page, page_bytes: chip.page_bytes }, first, second]
 }

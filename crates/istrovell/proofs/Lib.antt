@@ -1,3 +1,4 @@
--- That the exported calls meet the demands, and keep what their two owners are promised.
+-- That the exported calls meet the demands, keep what their two owners are promised, and wear the flash evenly.
 pub mod Demands
 pub mod Owners
+pub mod Wear

@@ -117,7 +117,7 @@ module _ (chip : Chip) (roomy : RoomyChip chip) (C : Calls) (obeys : Obeys chip 
       let is = obeys .formats e i f x in
       let fm = in-edition chip e in
       let w = format-right fm i (sym (ap (λ (g : Formatted). g .number) (is .1)) ∙ ok) in
-      let h = format-healthy fm (roomy .0) i w in (
+      let h = format-healthy fm i w (roomy .0) in (
         (λ x. none),
         subst (Well (λ x. none)) (sym (ap (λ (g : Formatted). g .image) (is .1 ∙ format-done fm i w)))
             (subst (λ (g : Form). Healthy g (Unit {0}) (Unit {0}) (λ x. none) (run (size fm) (format-steps e (page-count fm i)) i))
@@ -165,11 +165,13 @@ module _ (chip : Chip) (roomy : RoomyChip chip) (C : Calls) (obeys : Obeys chip 
       pub passed : WriteFails fm i o c
       passed = write-fails fm i o c (sym wrote-number ∙ ok)
 
-      pub write-done : {May : Type 0} {t : ℕ → Option ℕ} → WellIf May t i → WellIf May (changed (settings-of c) t) (s .image)
+      pub write-image : s .image ≡ run (size fm) (write-of fm c i) i
       unfolding write
+      write-image = called-run fm (write-number fm o c i) n (write-of fm c i) i s is-write (sym wrote-number ∙ ok) fin
+
+      pub write-done : {May : Type 0} {t : ℕ → Option ℕ} → WellIf May t i → WellIf May (changed (settings-of c) t) (s .image)
       write-done {May} {t} h =
-          let e = called-run fm (write-number fm o c i) n (write-of fm c i) i s is-write (sym wrote-number ∙ ok) fin in
-          carry i (subst (Healthy fm May (Unit {0}) (changed (settings-of c) t)) (sym e) (write-run h o c (sym wrote-number ∙ ok)))
+          carry i (subst (Healthy fm May (Unit {0}) (changed (settings-of c) t)) (sym write-image) (write-run h o c (sym wrote-number ∙ ok)))
 
       found : Found chip C (settings-of c) i (s .image)
       found =

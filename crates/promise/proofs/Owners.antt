@@ -43,7 +43,7 @@ module _ (chip : Chip) (roomy : RoomyChip chip) (C : Calls) (obeys : Obeys chip 
   Sound i = (t : ℕ → Option ℕ) × Well chip roomy C obeys t i
 
   -- a refused write leaves the image
-  stays : (o : Owner) {i : Image} (c : Change) (n : ℕ) (s : Stepped) → C .Writes o c n i s → (s .number ≡ OK → ⊥) → s .image ≡ i
+  pub stays : (o : Owner) {i : Image} (c : Change) (n : ℕ) (s : Stepped) → C .Writes o c n i s → (s .number ≡ OK → ⊥) → s .image ≡ i
   unfolding write
   stays o {i} c n s x ne =
       ap (λ (r : Stepped). r .image)

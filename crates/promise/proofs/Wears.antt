@@ -13,7 +13,7 @@ use borrow.Author.Tests.{leb-true, leb-false}
 use Rattle.rules.specs.Flash.{Step, erase, run}
 use Rattle.rules.specs.Word.{Word, mark-word}
 use Rattle.rules.specs.Page.{Form, word-count, size, wear-part, wear-in, State, cleared, bad, Page, page, state-by, state}
-use Rattle.rules.specs.Store.{states, greatest, base, used, is-cleared, no-page, page-at, count, or-value, Candidate, nobody, better, offered, least-worn}
+use Rattle.rules.specs.Store.{states, greatest, base, used, is-cleared, no-page, page-at, count, or-value}
 use Rattle.rules.specs.Store.{index, Setting, journal, active-index, active-slots, free-slot, open-group}
 use Rattle.rules.specs.Steps.{renew, one-more, renewed-wear, greatest-wear, renew-picked, unclean, abandon-steps, recovery-steps, taken}
 use Rattle.rules.specs.Call.{Roomy, cut, page-count, pages, store-number, OK}
@@ -23,7 +23,7 @@ use Rattle.rules.proofs.Cut.{cut-length, pages-long}
 use Rattle.rules.proofs.Phases.{Pages, store-run, store-run-append}
 use Rattle.rules.proofs.Told.{told, told-amid, page-told}
 use Rattle.rules.proofs.Pages.{cleared-is, fresh-cleared}
-use Rattle.rules.proofs.Stores.{cleared-or-not, taken-at}
+use Rattle.rules.proofs.Stores.{cleared-or-not, taken-at, bad-cleared, taken-least}
 use Rattle.rules.proofs.Renewing.{fresh, renew-run, rest-steps}
 use Rattle.rules.proofs.Wears.{fresh-wear, beside, Erased, erased-at, is-erased, past-slots}
 use Rattle.rules.proofs.Good.{Frame, Good}
@@ -59,9 +59,6 @@ wear-upto (suc q) n (p ∷ ps) e = let rest = wear-upto q n ps e in omega arith
 abbrev ClearedAt : List Page → ℕ → ℕ → Type 0
 ClearedAt ps q n = page-at q ps .state ≡ cleared n
 
-bad-cleared : {A : Type 0} {n : ℕ} → bad ≡ cleared n → A
-bad-cleared e = let z : _≡_ {A = ℕ} 0 1 = cc in absurd (omega arith)
-
 wear-cleared : (edition : ℕ) (F : Pages) (q n : ℕ) → ClearedAt (told edition F) q n → page-at q (told edition F) .wear ≡ some n
 unfolding page wear-in wear-part
 wear-cleared edition [] q n e = bad-cleared e
@@ -91,37 +88,15 @@ elsewhere (suc k) (p ∷ ps) h =
 
 -- ---- the page that is taken is worn least
 
-unfoldable AtMost : ℕ → Candidate → Type 0
-AtMost n nobody = ⊥
-AtMost n (Candidate.page k m) = m ≤ n
-
-better-first : (k n : ℕ) (c : Candidate) → AtMost n (better (Candidate.page k n) c)
-unfolding AtMost better
-better-first k n nobody = omega arith
-better-first k n (Candidate.page j m) = by-cases (leb n m) (λ t. rw t (omega arith)) (λ t. let l = leb-false n m t in rw t (omega arith))
-
-better-second : (n : ℕ) (b c : Candidate) → AtMost n c → AtMost n (better b c)
-unfolding AtMost better
-better-second n nobody c h = h
-better-second n (Candidate.page k m) nobody h = absurd h
-better-second n (Candidate.page k m) (Candidate.page j o) h =
-    by-cases (leb m o) (λ t. let l = leb-true m o t in rw t (omega arith)) (λ t. rw t h)
-
-least-least : (k : ℕ) (ps : List Page) (q n : ℕ) → ClearedAt ps q n → AtMost n (least-worn k (states ps))
-unfolding least-worn offered states
-least-least k [] q n e = bad-cleared e
-least-least k (p ∷ ps) zero n e = rw e (better-first k n (least-worn (suc k) (states ps)))
-least-least k (p ∷ ps) (suc q) n e = better-second n (offered k (p .state)) (least-worn (suc k) (states ps)) (least-least (suc k) ps q n e)
-
--- so one that is worn more than every other page is passed over while another is cleared
+-- one that is worn more than every other page is passed over while another is cleared
 passed-over : (edition : ℕ) (F : Pages) (p w : ℕ) → ClearedAt (told edition F) p w → Greatest p w (told edition F) → PassedOver p (told edition F)
-unfolding taken index AtMost
+unfolding taken index
 passed-over edition F p w is most two e =
     let ps = told edition F in
     let o = elsewhere p ps two in
     let less : o .1 < w = most (o .0) (o .1) (o .2) (wear-cleared edition F (o .0) (o .1) (o .3)) in
     let t = taken-at 0 ps (λ z. omega arith) in
-    let least : t .wear ≤ o .1 = subst (AtMost (o .1)) (t .place) (least-least 0 ps (o .0) (o .1) (o .3)) in
+    let least : t .wear ≤ o .1 = taken-least 0 (0 + length (t .front)) (t .wear) ps (t .place) (o .0) (o .1) (o .3) in
     let here : length (t .front) ≡ p = (let i : 0 + length (t .front) ≡ p = sym (ap index (t .place)) ∙ e in omega arith) in
     let it : page-at p ps ≡ t .page = ap (page-at p) (t .form) ∙ getD-at (t .front) (t .page) (t .rest) _ p here in
     let same : cleared (t .wear) ≡ cleared w = sym (t .is-cleared) ∙ ap (λ (q : Page). q .state) (sym it) ∙ is in

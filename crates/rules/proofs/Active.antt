@@ -65,6 +65,10 @@ module _ (edition k b : ℕ) (os : List ℕ) (F : Pages) (g : Ordered edition k 
       ∙ ap (page-at (length (active .front))) (active .form)
       ∙ getD-append-seam (active .front) (active .page) (active .rest) no-page ∙ sym (at-active .here-told)
 
+  -- its order is the active one
+  pub order-active : order (active-page (told edition F) .state) ≡ active-order (states (told edition F))
+  order-active = ap (λ (p : Page). order (p .state)) (page-active ∙ at-active .here-told) ∙ active .is-order ∙ sym active-is
+
   pub slots-active : active-slots (told edition F) ≡ slots (at-active .here)
   unfolding active-slots page
   slots-active = ap (λ (p : Page). p .slots) page-active

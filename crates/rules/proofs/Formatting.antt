@@ -54,13 +54,19 @@ module _ (c : Frame) where
   clear-unused zero = tt
   clear-unused (suc n) = (rw clear-state, clear-unused n)
 
+  opened-state : state e (opened e (slots-in c)) ≡ open₁ 0
+  opened-state = opened-plain e (wear-word e 1) (wear-is-wear e 1) 0 (replicate (suc (slots-in c)) blank-word)
+
+  pub format-base : (n : ℕ) → base (states (told e (formatted e (slots-in c) n))) ≡ 0
+  unfolding page base greatest states order₂
+  format-base n = rw (opened-state, clear-base n)
+
   pub format-good : (n : ℕ) → suc n ≡ c .pages → Good c [] (formatted e (slots-in c) n)
-  unfolding AllWhole AllLight wear-part page base greatest states order order₂ used used-pages add-page orders oldest-first insert each
-      slots repeats among put-all
+  unfolding AllWhole AllLight wear-part page order used used-pages add-page orders oldest-first insert each slots repeats among put-all
   format-good n is =
       let two = c .two in
       let m = slots-in c in
-      let st : state e (opened e m) ≡ open₁ 0 = opened-plain e (wear-word e 1) (wear-is-wear e 1) 0 (replicate (suc m) blank-word) in
+      let st = opened-state in
       let only : used-pages 0 (told e (formatted e m n)) ≡ page e (opened e m) ∷ [] = rw (st, none-used-pages 0 (told e (clear-pages n)) (clear-unused n)) in
       record {
         base-order = 0;
@@ -79,7 +85,7 @@ module _ (c : Frame) where
             clear-whole n,
           );
           count = ap suc (length-replicate n clear-page) ∙ is;
-          is-base = rw (st, clear-base n);
+          is-base = format-base n;
           has-orders = ap orders only ∙ rw st;
           has-journal = ap (λ (ps : List Page). all-records (oldest-first ps)) only ∙ append-nil (records e (replicate m blank-word))
               ∙ blank-records e m;

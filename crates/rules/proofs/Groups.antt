@@ -111,6 +111,38 @@ unfolding settings-of repeats among
 change-distinct edition (single a v) g = refl
 change-distinct edition (group rs) g = grouped edition rs g .distinct
 
+-- ---- behind a change, and behind records alone, no group is open
+
+closes-any : (at : Place) (n : ℕ) → behind at (closes n) ≡ outside
+unfolding behind
+closes-any outside n = refl
+closes-any (inside m rs) n = refl
+closes-any lost n = refl
+
+pub records-end : (edition : ℕ) (rs : List Setting) → Lawful rs → place-behind outside (map (slot edition) (map record-of rs)) ≡ outside
+unfolding place-behind behind Lawful
+records-end edition [] p = refl
+records-end edition (setting a v ∷ rs) p = rw (← record-told edition a v (p .0)) (records-end edition rs (p .1))
+
+rest-ends : (edition n : ℕ) (so-far rs : List Setting) → Lawful rs → (w : Word) → behind (inside n (so-far ++ rs)) (slot edition w) ≡ outside
+    → place-behind (inside n so-far) (map (slot edition) (map record-of rs ++ w ∷ [])) ≡ outside
+unfolding place-behind behind Lawful
+rest-ends edition n so-far [] p w e = ap (λ (s : List Setting). behind (inside n s) (slot edition w)) (sym (append-nil so-far)) ∙ e
+rest-ends edition n so-far (setting a v ∷ rs) p w e =
+    rw (← record-told edition a v (p .0))
+    (rest-ends edition n (so-far ++ setting a v ∷ []) rs (p .1) w (rw append-snoc e))
+
+pub change-ends : (edition : ℕ) (c : Change) → wrong-group edition c ≡ false → Lawful (settings-of c)
+    → place-behind outside (map (slot edition) (words-of c)) ≡ outside
+unfolding place-behind behind settings-of words-of Lawful
+change-ends edition (single a v) g p = rw (← record-told edition a v (p .0))
+change-ends edition (group rs) g p =
+    let is = grouped edition rs g in
+    let opening = sym (opens-a-group (length rs) (is .least) (is .most)) ∙ mark-made edition (length rs) (is .has) in
+    let closing = sym (closes-a-group (length rs) (is .least) (is .most)) ∙ mark-made edition (128 + length rs) (is .has) in
+    rw (← opening)
+    (rest-ends edition (length rs) [] rs p (mark-word (128 + length rs)) (rw (← closing) (closes-any (inside (length rs) rs) (length rs))))
+
 -- ---- an abandon mark ends whatever group is open, and nothing counts by it
 
 none-closed : (n : ℕ) (rs : List Setting) → closed n 0 rs ≡ []
@@ -133,12 +165,6 @@ abandon-counts edition at =
 
 pub abandon-enters : (edition : ℕ) (at : Place) → Enters edition at (mark-word 0 ∷ []) []
 abandon-enters edition at = last (record-sound 65535 0) (abandon-counts edition at)
-
-closes-any : (at : Place) (n : ℕ) → behind at (closes n) ≡ outside
-unfolding behind
-closes-any outside n = refl
-closes-any (inside m rs) n = refl
-closes-any lost n = refl
 
 pub abandon-ends : (edition : ℕ) (at : Place) → has-groups edition ≡ true → behind at (slot edition (mark-word 0)) ≡ outside
 unfolding mark

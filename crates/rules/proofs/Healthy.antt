@@ -86,19 +86,19 @@ pub record Healthy (fm : Form) (May One : Type 0) (t : ℕ → Option ℕ) (i : 
   pub has : Has (frame fm roomy May One count least) t (cut (size fm) count i)
 
 module _ {fm : Form} {May One : Type 0} {t : ℕ → Option ℕ} {i : List ℕ} (h : Healthy fm May One t i) where
-  abbrev c : Frame
+  abbrev pub c : Frame
   c = frame fm (h .roomy) May One (h .count) (h .least)
 
   abbrev J : List Setting
   J = h .has .journal
 
-  abbrev F : Pages
+  abbrev pub F : Pages
   F = cut (size fm) (h .count) i
 
-  counted : page-count fm i ≡ h .count
+  pub counted : page-count fm i ≡ h .count
   counted = sized-count fm (h .count) i (h .sized)
 
-  pages-are : pages fm i ≡ told (fm .edition) F
+  pub pages-are : pages fm i ≡ told (fm .edition) F
   pages-are = sized-pages fm (h .count) i (h .sized)
 
   right-size : wrong-size fm i ≡ false
@@ -168,7 +168,7 @@ module _ {fm : Form} {May One : Type 0} {t : ℕ → Option ℕ} {i : List ℕ} 
     unfolding settings
     table-is = rw pages-are (ap (put-all []) (journal-is c J F (h .has .good)))
 
-    accepted-here : Accepted c ch t F
+    pub accepted-here : Accepted c ch t F
     unfolding is-unclean
     accepted-here =
         let fails = write-fails fm i o ch ok in
@@ -209,6 +209,18 @@ module _ {fm : Form} {May One : Type 0} {t : ℕ → Option ℕ} {i : List ℕ} 
     write-run =
         let y = run-pages (word-count fm) (h .count) write i (turns-either turning) (h .sized) in
         image-of (y .1) (subst (Has c (changed (settings-of ch) t)) (sym (y .0)) (turns-end turning))
+
+    -- a finished write does to the pages what it does to the image
+    pub write-pages : pages fm (run (size fm) write i) ≡ told (fm .edition) (store-run (word-count fm) (write-steps (fm .edition) ch (told (fm .edition) F)) F)
+    write-pages =
+        let y = run-pages (word-count fm) (h .count) write i (turns-either turning) (h .sized) in
+        sized-pages fm (h .count) (run (size fm) write i) (y .1)
+        ∙ ap (told (fm .edition)) (y .0 ∙ ap (λ (ps : List Page). store-run (word-count fm) (write-steps (fm .edition) ch ps) F) pages-are)
+
+    pub write-count : page-count fm (run (size fm) write i) ≡ page-count fm i
+    write-count =
+        let y = run-pages (word-count fm) (h .count) write i (turns-either turning) (h .sized) in
+        sized-count fm (h .count) (run (size fm) write i) (y .1) ∙ sym counted
 
 -- a store of one edition, which the chip has, is read by it
 pub form-told : (chip : Chip) (e : ℕ) → has-edition chip e ≡ true → {i : List ℕ} {May : Type 0} {t : ℕ → Option ℕ}
@@ -302,27 +314,56 @@ recovery-part fm roomy i ok = part-pages (accepted-healthy fm roomy ⊥ i ok (λ
 
 -- ---- a finished format
 
-pub format-healthy : (fm : Form) → Roomy fm → (i : List ℕ) → wrong-size fm i ≡ false
-    → Healthy fm (Unit {0}) (Unit {0}) (λ x. none) (run (size fm) (format-steps (fm .edition) (page-count fm i)) i)
-unfolding last-of
-format-healthy fm roomy i w =
-    let s = right-sizes fm i w in
-    let least = s .least in
-    let n = page-count fm i in
-    let p = cut-cons (size fm) n i (omega arith) in
-    let r = p .1 in
-    let steps = format-steps (fm .edition) (suc (length r)) in
-    let doable = subst (Doable (word-count fm) steps) (sym (p .2)) (format-through (fm .edition) (fm .slot-count) (p .0) r) in
-    let y = run-pages (word-count fm) n steps i doable (s .sized) in
-    let e : cut (size fm) n (run (size fm) steps i) ≡ formatted (fm .edition) (fm .slot-count) (length r) =
-    y .0 ∙ ap (store-run (word-count fm) steps) (p .2) ∙ format-run (fm .edition) (fm .slot-count) (p .0) r in
-    let c = frame fm roomy (Unit {0}) (Unit {0}) n least in
-    subst (λ (m : ℕ). Healthy fm (Unit {0}) (Unit {0}) (λ x. none) (run (size fm) (format-steps (fm .edition) m) i)) (sym (p .3))
-    (record {
-      roomy = roomy;
-      count = n;
-      sized = y .1;
-      least = least;
-      most = s .most;
-      has = record { journal = []; good = subst (Good c []) (sym e) (format-good c (length r) (sym (p .3))); values = λ x. refl };
-    })
+module _ (fm : Form) (i : List ℕ) (right : wrong-size fm i ≡ false) where
+  -- the image that it leaves
+  abbrev formatted-image : List ℕ
+  formatted-image = run (size fm) (format-steps (fm .edition) (page-count fm i)) i
+
+  -- the pages that it leaves: the first, and so many others
+  record Laid : Type 0 where
+    others : ℕ
+    many : page-count fm i ≡ suc others
+    sized : length formatted-image ≡ page-count fm i * size fm
+    laid : cut (size fm) (page-count fm i) formatted-image ≡ formatted (fm .edition) (fm .slot-count) others
+
+  format-laid : Laid
+  format-laid =
+      let s = right-sizes fm i right in
+      let least = s .least in
+      let n = page-count fm i in
+      let p = cut-cons (size fm) n i (omega arith) in
+      let r = p .1 in
+      let steps = format-steps (fm .edition) (suc (length r)) in
+      let doable = subst (Doable (word-count fm) steps) (sym (p .2)) (format-through (fm .edition) (fm .slot-count) (p .0) r) in
+      let y = run-pages (word-count fm) n steps i doable (s .sized) in
+      let same = ap (λ (m : ℕ). run (size fm) (format-steps (fm .edition) m) i) (p .3) in
+      record {
+        others = length r;
+        many = p .3;
+        sized = ap length same ∙ y .1;
+        laid = ap (cut (size fm) n) same ∙ y .0 ∙ ap (store-run (word-count fm) steps) (p .2) ∙ format-run (fm .edition) (fm .slot-count) (p .0) r;
+      }
+
+  pub format-pages : (m : ℕ) × (page-count fm formatted-image ≡ suc m)
+      × (pages fm formatted-image ≡ told (fm .edition) (formatted (fm .edition) (fm .slot-count) m))
+  format-pages =
+      let l = format-laid in (
+        l .others,
+        sized-count fm (page-count fm i) formatted-image (l .sized) ∙ l .many,
+        sized-pages fm (page-count fm i) formatted-image (l .sized) ∙ ap (told (fm .edition)) (l .laid),
+      )
+
+  pub format-healthy : Roomy fm → Healthy fm (Unit {0}) (Unit {0}) (λ x. none) formatted-image
+  unfolding last-of
+  format-healthy roomy =
+      let s = right-sizes fm i right in
+      let l = format-laid in
+      let c = frame fm roomy (Unit {0}) (Unit {0}) (page-count fm i) (s .least) in
+      record {
+        roomy = roomy;
+        count = page-count fm i;
+        sized = l .sized;
+        least = s .least;
+        most = s .most;
+        has = record { journal = []; good = subst (Good c []) (sym (l .laid)) (format-good c (l .others) (sym (l .many))); values = λ x. refl };
+      }

@@ -24,7 +24,7 @@ use Rattle.rules.proofs.Told.{told}
 use Rattle.rules.proofs.Active.{taken-page}
 use Rattle.rules.proofs.Building.{room, room-is, records-sound, slots-run, slots-through}
 use Rattle.rules.proofs.Good.{Frame, slots-in, words-in, Throughout, Turning, Whole, Keeps, whole-amid, whole-word, keeps-with}
-use Rattle.rules.proofs.Renewing.{renewals-set}
+use Rattle.rules.proofs.Renewing.{renewed, renewals-set, renewals-run}
 use Rattle.rules.proofs.Recovering.{Idle, renewals-through}
 use Rattle.rules.proofs.Opening.{Taking, pages-now, Kept, next, begun-whole, closed-keeps, opening-turns, base-below, base-apart, under-apart}
 
@@ -49,18 +49,18 @@ idle-amid edition o picks i (x ∷ f) pg r a c h =
 -- ---- the whole move
 
 module _ (c : Frame) (J : List Setting) (f : Pages) (w : Word) (r : Pages) (t : Taking c J f w r) where
-  abbrev o : ℕ
+  abbrev pub o : ℕ
   o = next c J f w r t
 
   abbrev Old : Pages → Type 0
   Old = Kept c J f w r t
 
   -- the page while it receives, with d for its done word
-  abbrev receives : Word → List Word → List Word
+  abbrev pub receives : Word → List Word → List Word
   receives d ws = w ∷ opening-word 2 o ∷ d ∷ ws
 
   -- the store while it does
-  abbrev receiving : Word → List Word → Pages
+  abbrev pub receiving : Word → List Word → Pages
   receiving d ws = f ++ receives d ws ∷ r
 
   receiving-keeps : (d : Word) (ws : List Word) → sound d ≡ false → Whole c (receives d ws) → Old (receiving d ws)
@@ -76,7 +76,7 @@ module _ (c : Frame) (J : List Setting) (f : Pages) (w : Word) (r : Pages) (t : 
     abbrev j : ℕ
     j = slots-in c - length ws
 
-    abbrev filled : List Word
+    abbrev pub filled : List Word
     filled = ws ++ replicate j blank-word
 
     abbrev New : Pages → Type 0
@@ -92,7 +92,7 @@ module _ (c : Frame) (J : List Setting) (f : Pages) (w : Word) (r : Pages) (t : 
     doing = word-steps (length f) done-place (done-word o)
 
     -- every other page is renewed, by the greatest wear at the call
-    abbrev greatest : ℕ
+    abbrev pub greatest : ℕ
     greatest = greatest-wear (told (c .form .edition) (pages-now c J f w r t))
 
     abbrev renewing : Pages → List Step
@@ -180,7 +180,29 @@ module _ (c : Frame) (J : List Setting) (f : Pages) (w : Word) (r : Pages) (t : 
         (idle-amid (c .form .edition) o (λ j s. other (length f) j) 0 f (receives (done-word o) filled) r (others-unused .0) (others-unused .1) other-not)
         done-keeps)
 
-    pub move-turns : Turning c Old New (move-steps (c .form .edition) (length f) o cs (told (c .form .edition) (pages-now c J f w r t))) (pages-now c J f w r t)
+    -- the page with all that it is to have, and when every other one is renewed
+    filled-run : store-run (words-in c) (opening ++ copying ++ doing) (pages-now c J f w r t) ≡ receiving (done-word o) filled
+    filled-run =
+        let F = pages-now c J f w r t in
+        let k = words-in c in
+        store-run-append k (opening ++ copying) doing F
+        ∙ ap (store-run k doing) (store-run-append k opening copying F ∙ ap (store-run k copying) opening-run ∙ copies-run) ∙ done-run
+
+    -- the steps of the move
+    abbrev pub moving : List Step
+    moving = move-steps (c .form .edition) (length f) o cs (told (c .form .edition) (pages-now c J f w r t))
+
+    pub move-run : store-run (words-in c) moving (pages-now c J f w r t)
+        ≡ renewed (c .form .edition) (suc (suc (slots-in c))) (λ j s. other (length f) j) greatest 0 (receiving (done-word o) filled)
+    unfolding move-steps renew-picked fill-steps
+    move-run =
+        let F = pages-now c J f w r t in
+        let k = words-in c in
+        store-run-append k (opening ++ copying ++ doing) (renewing F) F ∙ ap (store-run k (renewing F)) filled-run
+        ∙ ap (λ (ss : List Step). store-run k ss (receiving (done-word o) filled)) (sym renewing-same)
+        ∙ renewals-run (c .form .edition) (suc (suc (slots-in c))) (λ j s. other (length f) j) greatest [] (receiving (done-word o) filled)
+
+    pub move-turns : Turning c Old New moving (pages-now c J f w r t)
     unfolding move-steps renew-picked fill-steps
     move-turns =
         let F = pages-now c J f w r t in
@@ -191,6 +213,4 @@ module _ (c : Frame) (J : List Setting) (f : Pages) (w : Word) (r : Pages) (t : 
         let ran : store-run k (opening ++ copying) F ≡ receiving blank-word filled =
         store-run-append k opening copying F ∙ ap (store-run k copying) opening-run ∙ copies-run in
         let second = turns-after first (subst (Turning c Old New doing) (sym ran) done-turns) in
-        let done : store-run k (opening ++ copying ++ doing) F ≡ receiving (done-word o) filled =
-        store-run-append k (opening ++ copying) doing F ∙ ap (store-run k doing) ran ∙ done-run in
-        turns-before (renewing F) second (subst (Throughout c New (renewing F)) (sym done) others-through)
+        turns-before (renewing F) second (subst (Throughout c New (renewing F)) (sym filled-run) others-through)

@@ -17,7 +17,7 @@ use Rattle.rules.proofs.Pages.{fresh-not-open, unopened-not-open, opene
 use Rattle.rules.proofs.Slots.{blank-records}
 use Rattle.rules.proofs.Stores.{Under, orders, orders-append, base-amid, used-amid, unused-amid, closed-not-used, closed-order₂, under-below}
 use Rattle.rules.proofs.Stores.{under-append, base-under, journal-amid, repeats-insert}
-use Rattle.rules.proofs.Phases.{Pages, word-turns, word-run, turns-map, turns-through, turns-after}
+use Rattle.rules.proofs.Phases.{Pages, word-turns, word-run, turns-map, turns-through, turns-after, store-run}
 use Rattle.rules.proofs.Told.{told}
 use Rattle.rules.proofs.Active.{taken-page}
 use Rattle.rules.proofs.Good.{Frame, slots-in, words-in, Turning, Whole, Keeps, Good, whole-amid, whole-word, keeps-base, keeps-orders}
@@ -46,7 +46,7 @@ module _ (c : Frame) (J : List Setting) (f : Pages) (w : Word) (r : Pages) (t : 
   abbrev pub begun : Word → List Word
   begun v = w ∷ v ∷ replicate (suc (slots-in c)) blank-word
 
-  abbrev b : ℕ
+  abbrev pub b : ℕ
   b = t .good .base-order
 
   abbrev h : Kept pages-now
@@ -121,13 +121,13 @@ module _ (c : Frame) (J : List Setting) (f : Pages) (w : Word) (r : Pages) (t : 
 
   -- ---- with its opening word of kind 1 the page is the newest, and the journal is the same
 
-  abbrev qg : List Word
+  abbrev pub qg : List Word
   qg = begun (opening-word 1 next)
 
   opened : state (c .form .edition) qg ≡ open₁ next
   opened = opened-plain (c .form .edition) w (t .worn) next (replicate (suc (slots-in c)) blank-word)
 
-  opened-newest : Newest (c .form .edition) b f qg r
+  pub opened-newest : Newest (c .form .edition) b f qg r
   unfolding used order
   opened-newest =
       let l : b ≤ next = (let x = base-below in omega arith) in
@@ -138,10 +138,10 @@ module _ (c : Frame) (J : List Setting) (f : Pages) (w : Word) (r : Pages) (t : 
       }
 
   -- the orders of the used pages with the new page among them
-  abbrev wider : List ℕ
+  abbrev pub wider : List ℕ
   wider = orders (used-pages b fp) ++ next ∷ orders (used-pages b rp)
 
-  opened-keeps : Keeps c b wider J (f ++ qg ∷ r)
+  pub opened-keeps : Keeps c b wider J (f ++ qg ∷ r)
   unfolding page orders order order₂ slots
   opened-keeps =
       let q = page (c .form .edition) qg in
@@ -170,6 +170,9 @@ module _ (c : Frame) (J : List Setting) (f : Pages) (w : Word) (r : Pages) (t : 
         few = t .good .few;
       }
 
+  pub opened-run : store-run (words-in c) (word-steps (length f) opening-place (opening-word 1 next)) pages-now ≡ f ++ qg ∷ r
+  opened-run = word-run (words-in c) f r (w ∷ []) (replicate (suc (slots-in c)) blank-word) (opening-word 1 next)
+
   -- words that fit into a page go into it
   pub open-case : {ws : List Word} {rs : List Setting} → length (put-all [] (J ++ rs)) ≤ c .limit → Enters (c .form .edition) outside ws rs
       → length ws ≤ slots-in c → suc (length (t .good .used-by)) < c .pages
@@ -182,5 +185,4 @@ module _ (c : Frame) (J : List Setting) (f : Pages) (w : Word) (r : Pages) (t : 
       (opened-good two) (opening-turns 1 (Keeps c b wider J) opened-keeps)) in
       let last = turns-map (good-still c J G good J (t .good .few)) (good-still c J G good (J ++ rs) few)
       (enter-turns c b wider J f w (opening-word 1 next) blank-word [] (slots-in c) r opened-newest opened-keeps en fits) in
-      let ran = word-run (words-in c) f r (w ∷ []) (replicate (suc (slots-in c)) blank-word) (opening-word 1 next) in
-      turns-after first (subst (Turning c (Good c J) (Good c (J ++ rs)) (slots-steps (length f) 0 ws)) (sym ran) last)
+      turns-after first (subst (Turning c (Good c J) (Good c (J ++ rs)) (slots-steps (length f) 0 ws)) (sym opened-run) last)

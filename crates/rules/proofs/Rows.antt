@@ -15,7 +15,7 @@ use Rattle.rules.specs.Owner.{Owner, a-foreign}
 use Rattle.rules.specs.Call.{Row, row, first-of, pages, wrong-size, no-store, damaged, is-unclean, wrong-group, wrong-address, a-wrong-address}
 use Rattle.rules.specs.Call.{is-held, no-room, crowded}
 use Rattle.rules.specs.Call.{order-end, store-rows, store-number, blank-read-rows, blank-read-number, read-rows, read-number, write-only-rows}
-use Rattle.rules.specs.Call.{write-rows, write-number, OK, ADDRESS, OWNER, NO-ROOM, NOT-HELD}
+use Rattle.rules.specs.Call.{write-rows, write-number, OK, ADDRESS, OWNER, NO-ROOM, ORDER-END, NOT-HELD}
 use Rattle.rules.proofs.Truth.{and-both, not-both, or-first, or-false-left, or-false-right}
 
 -- every test fails, up to a row of OK whose test holds
@@ -109,6 +109,11 @@ module _ (fm : Form) (i : List ℕ) where
         → write-number fm o c i ≡ NO-ROOM → ⊥
     unfolding write-number write-rows store-rows may-give
     not-for-room c room own-room e = not-given NO-ROOM (write-rows fm o c i) (rw (room, own-room)) e
+
+    -- and ORDER END only if the orders are used up
+    pub not-for-order : (c : Change) → order-end (length (words-of c)) (pages fm i) ≡ false → write-number fm o c i ≡ ORDER-END → ⊥
+    unfolding write-number write-rows store-rows may-give
+    not-for-order c order e = not-given ORDER-END (write-rows fm o c i) (rw order) e
 
     -- an accepted write passed each test
     pub record WriteFails (c : Change) : Type 0 where

@@ -1,5 +1,5 @@
 -- Laws of stores, of any number of pages: which pages are used, and the journal, when one page changes. Assumes nothing.
-use Prim.Native.Nat.{ℕ, suc, _+_, _≤_, _<_, max}
+use Prim.Native.Nat.{ℕ, zero, suc, _+_, _≤_, _<_, max}
 use mathlib.Core.Path.{_≡_, refl, sym, ap, _∙_, subst}
 use mathlib.Core.Logic.{_⊎_, inl, inr, ⊎-elim}
 use mathlib.Core.Bool.{Bool, true, false, cond, not, _||_}
@@ -12,7 +12,7 @@ use borrow.Author.Tests.{le-leb, lt-leb, leb-true, leb-false, eqb-true, eqb-fals
 use Rattle.rules.specs.Page.{State, cleared, open₁, open₂, receiving, bad, Page}
 use Rattle.rules.specs.Store.{states, order₂, base, used, is-cleared, is-open, order, add-order, used-orders, greatest, is-active, index-of}
 use Rattle.rules.specs.Store.{add-page, used-pages, insert, oldest-first, Setting, each, records-in, all-records, count, Candidate}
-use Rattle.rules.specs.Store.{nobody, page, better, offered, least-worn}
+use Rattle.rules.specs.Store.{nobody, page, better, offered, least-worn, page-at}
 use Rattle.rules.specs.Steps.{unclean}
 use Rattle.rules.specs.Call.{among, repeats}
 use Rattle.rules.proofs.Truth.{is-false, by-cases, not-both, or-first, or-second, or-false-left, or-false-right}
@@ -473,6 +473,35 @@ taken-at k (p ∷ ps) h =
     let t = taken-at (suc k) ps (λ z. h (rw (c .0) (omega arith))) in
     taken-later k p ps t (rw (c .1 k)))
     (cleared-or-not (p .state))
+
+-- and no cleared page is worn less
+pub bad-cleared : {A : Type 0} {n : ℕ} → bad ≡ cleared n → A
+bad-cleared e = let z : _≡_ {A = ℕ} 0 1 = cc in absurd (omega arith)
+
+-- a candidate is of wear m at least
+unfoldable From : ℕ → Candidate → Type 0
+From m nobody = Unit {0}
+From m (Candidate.page k n) = m ≤ n
+
+from-better : (m : ℕ) (x y : Candidate) → From m (better x y) → From m x × From m y
+unfolding From better
+from-better m nobody y h = (tt, h)
+from-better m (Candidate.page k n) nobody h = (h, tt)
+from-better m (Candidate.page k n) (Candidate.page j o) h =
+    by-cases (leb n o)
+    (λ l. let x : m ≤ n = rw l at h in (x, omega (arith, leb-true n o l)))
+    (λ l. let x : m ≤ o = rw l at h in (omega (arith, leb-false n o l), x))
+
+from-least : (m k : ℕ) (ps : List Page) → From m (least-worn k (states ps)) → (q n : ℕ) → page-at q ps .state ≡ cleared n → m ≤ n
+unfolding From least-worn offered states
+from-least m k [] h q n e = bad-cleared e
+from-least m k (p ∷ ps) h zero n e =
+    subst (λ (s : State). From m (offered k s)) e (from-better m (offered k (p .state)) (least-worn (suc k) (states ps)) h .0)
+from-least m k (p ∷ ps) h (suc q) n e = from-least m (suc k) ps (from-better m (offered k (p .state)) (least-worn (suc k) (states ps)) h .1) q n e
+
+pub taken-least : (k j m : ℕ) (ps : List Page) → least-worn k (states ps) ≡ Candidate.page j m → (q n : ℕ) → page-at q ps .state ≡ cleared n → m ≤ n
+unfolding From
+taken-least k j m ps e = from-least m k ps (subst (From m) (sym e) (omega arith))
 
 -- ---- counting
 

@@ -103,17 +103,21 @@ past-slots k at (w ∷ ws) rest before p after e =
 pub beside : {A : Type 0} (f : List A) (x y : A) (r : List A) (q : ℕ) (d : A) → (q ≡ length f → ⊥) → getD (f ++ x ∷ r) q d ≡ getD (f ++ y ∷ r) q d
 beside f x y r q d ne = ap (λ (l : List _). getD l q d) (sym (set-append-seam f y r x)) ∙ getD-set-other (f ++ y ∷ r) (length f) q x d ne
 
+-- the greatest wear of pages with one in their midst
+pub greatest-parted : (f : List Page) (p : Page) (r : List Page)
+    → greatest-wear (f ++ p ∷ r) ≡ max (greatest-wear f) (max (or-value (p .wear) 0) (greatest-wear r))
+unfolding greatest-wear greatest
+greatest-parted f p r = ap greatest (map-append worn f (p ∷ r)) ∙ greatest-append (map worn f) (worn p ∷ map worn r)
+  where
+    worn : Page → ℕ
+    worn p = or-value (p .wear) 0
+
 module _ (edition k′ : ℕ) where
   greatest-amid : (f : Pages) (pg : List Word) (r : Pages)
       → greatest-wear (told edition (f ++ pg ∷ r))
       ≡ max (greatest-wear (told edition f)) (max (or-value (wear-in edition pg) 0) (greatest-wear (told edition r)))
-  unfolding greatest-wear greatest page
-  greatest-amid f pg r =
-      ap greatest-wear (told-amid edition f pg r) ∙ ap greatest (map-append worn (told edition f) (page edition pg ∷ told edition r))
-      ∙ greatest-append (map worn (told edition f)) (worn (page edition pg) ∷ map worn (told edition r))
-    where
-      worn : Page → ℕ
-      worn p = or-value (p .wear) 0
+  unfolding page
+  greatest-amid f pg r = ap greatest-wear (told-amid edition f pg r) ∙ greatest-parted (told edition f) (page edition pg) (told edition r)
 
   -- it still does when a page has been renewed
   tops-renewed : (g : ℕ) (f : Pages) (pg : List Word) (r : Pages) → Tops edition g (f ++ pg ∷ r)

@@ -62,16 +62,16 @@ module _ (c : Frame) (ch : Change) (t : ℕ → Option ℕ) where
     new G g = record { journal = J ++ rs; good = g; values = λ x. last-of-more x rs J (h .has .values x) }
 
     -- as many pages are cleared as are not used
-    cleared-there : length (h .has .good .used-by) + count is-cleared (states (told e F)) ≡ c .pages
+    pub cleared-there : length (h .has .good .used-by) + count is-cleared (states (told e F)) ≡ c .pages
     cleared-there =
         let g = h .has .good in
         some-cleared e (words-in c) (g .base-order) (c .pages) (g .used-by) F (good-ordered c J F g) (g .keeps .count) (h .clean)
 
-    enters : Enters e outside (words-of ch) rs
+    pub enters : Enters e outside (words-of ch) rs
     enters = change-enters e ch (h .grouped) (h .addressed)
 
     -- the free slot stands outside a group
-    is-outside : has-room (length (words-of ch)) (told e F) ≡ true → outside ≡ free-place c J F (h .has .good)
+    pub is-outside : has-room (length (words-of ch)) (told e F) ≡ true → outside ≡ free-place c J F (h .has .good)
     unfolding has-room open-group
     is-outside free =
         let ps = told e F in
@@ -89,7 +89,7 @@ module _ (c : Frame) (ch : Change) (t : ℕ → Option ℕ) where
         turns-map (λ G k. old G (good-still c J F g J (g .few) G k)) (λ G k. new G (good-still c J F g (J ++ rs) few G k))
         (entering-turns c J F g (words-of ch) free (subst (λ (at : Place). Enters e at (words-of ch) rs) (is-outside free) enters))
 
-    some-taken : Takes e (slots-in c) F
+    pub some-taken : Takes e (slots-in c) F
     some-taken =
         let all = cleared-there in
         let sp = h .has .good .spare in
@@ -105,7 +105,7 @@ module _ (c : Frame) (ch : Change) (t : ℕ → Option ℕ) where
     abbrev K : List Setting
     K = h .has .journal
 
-    abbrev taking : Taking c K f w r
+    abbrev pub taking : Taking c K f w r
     taking = record { worn = worn; good = h .has .good }
 
     opens : leb 2 (count is-cleared (states (told e F))) ≡ true → Goes (λ ps. open-at (taken ps) (next-order ps)) F
@@ -118,10 +118,10 @@ module _ (c : Frame) (ch : Change) (t : ℕ → Option ℕ) where
         rw place
         (turns-map (old F h fresh) (new F h fresh) (open-case c K f w r taking (few F h fresh) (enters F h fresh) (omega arith) (omega arith)))
 
-    abbrev copied : List Setting
+    abbrev pub copied : List Setting
     copied = move-records rs (put-all [] K)
 
-    copied-lawful : Lawful copied
+    pub copied-lawful : Lawful copied
     unfolding Lawful
     copied-lawful =
         lawful-append (but-all rs (put-all [] K)) rs
