@@ -1,22 +1,21 @@
 -- How many steps the calls have, and how many of them are erases. Assumes nothing.
-use Prim.Native.Nat.{ℕ, suc, _+_, _≤_, _<_}
-use mathlib.Core.Path.{_≡_, refl, ap, _∙_}
+use Prim.Native.Nat.{ℕ, _+_, _≤_, _<_}
+use mathlib.Core.Path.{_≡_, refl, _∙_}
 use mathlib.Core.Bool.{true, false}
-use mathlib.Core.List.{List, [], _∷_, _++_, map}
+use mathlib.Core.List.{List, [], _∷_}
 use native.Mathlib.Omega.{arith}
 use lib.ListN.{length}
 use lib.Dec.{leb}
-use Rattle.rules.specs.Flash.{Step}
-use Rattle.rules.specs.Word.{Word, word, wear-word, opening-word, done-word, word-steps}
-use Rattle.rules.specs.Page.{Form, Page, wear-place, opening-place, done-place, slot-place}
+use Rattle.rules.specs.Flash.{Half, program}
+use Rattle.rules.specs.Page.{Form, Page}
 use Rattle.rules.specs.Store.{each, Setting, states, is-cleared, active-index, active-slots, free-slot, has-room, count, journal, settings}
-use Rattle.rules.specs.Steps.{Way, stay, append-to, open-at, move-to, renew, greatest-wear, Renewal, renewal, renewals, renew-each, renew-picked, other}
-use Rattle.rules.specs.Steps.{Change, settings-of, words-of, record-of, all-values, move-records, slots-steps, append-steps, open-steps, fill-steps}
+use Rattle.rules.specs.Steps.{Way, stay, append-to, open-at, move-to, greatest-wear, Renewal, renewal, renewals, renew-each, renew-picked, other}
+use Rattle.rules.specs.Steps.{Change, settings-of, words-of, all-values, move-records, append-steps, fill-steps}
 use Rattle.rules.specs.Steps.{move-steps, taken, next-order, new-page, way, way-steps, write-steps}
 use Rattle.rules.specs.Owner.{Owner}
 use Rattle.rules.specs.Call.{pages, write-number, OK}
 use Rattle.rules.proofs.Truth.{by-cases, not-both}
-use Rattle.rules.proofs.Stores.{count-append}
+use Rattle.rules.proofs.Erasing.{none-before, slots-none, open-none, fill-none, renew-one}
 use Rattle.rules.proofs.Lengths.{slots-long, renewals-others, open-long, move-long}
 use Rattle.rules.proofs.Cut.{pages-long}
 use Rattle.rules.proofs.Settings.{moved-length}
@@ -29,48 +28,28 @@ use Rattle.promise.specs.Corollaries.{is-erase, erases, moves, a-move-we
 
 -- ---- erases
 
--- where nothing is erased in xs
-erases-after : (xs ys : List Step) → erases xs ≡ 0 → erases (xs ++ ys) ≡ erases ys
-unfolding erases
-erases-after xs ys e = let f = count-append is-erase xs ys in omega arith
-
-erases-none : (xs ys : List Step) → erases xs ≡ 0 → erases ys ≡ 0 → erases (xs ++ ys) ≡ 0
-erases-none xs ys p q = erases-after xs ys p ∙ q
-
-erases-word : (p at : ℕ) (w : Word) → erases (word-steps p at w) ≡ 0
-unfolding erases is-erase count word-steps
-erases-word p at (word a b c d) = refl
-
-erases-slots : (p k : ℕ) (ws : List Word) → erases (slots-steps p k ws) ≡ 0
-unfolding erases count slots-steps
-erases-slots p k [] = refl
-erases-slots p k (w ∷ ws) =
-    erases-none (word-steps p (slot-place k) w) (slots-steps p (suc k) ws) (erases-word p (slot-place k) w) (erases-slots p (suc k) ws)
-
-erases-renew : (edition k n : ℕ) (ss : List Step) → erases (renew edition k n ++ ss) ≡ suc (erases ss)
-unfolding erases is-erase count renew
-erases-renew edition k n ss =
-    omega (arith, erases-after (word-steps k wear-place (wear-word edition n)) ss (erases-word k wear-place (wear-word edition n)))
+no-program : (p w : ℕ) (h : Half) (low high : ℕ) → is-erase (program p w h low high) ≡ false
+unfolding is-erase
+no-program p w h low high = refl
 
 -- one for each page that is renewed
 erases-each : (edition : ℕ) (rs : List Renewal) → erases (renew-each edition rs) ≡ length rs
-unfolding erases count each
+unfolding erases is-erase count each
 erases-each edition [] = refl
-erases-each edition (renewal k n ∷ rs) = erases-renew edition k n (renew-each edition rs) ∙ ap suc (erases-each edition rs)
+erases-each edition (renewal k n ∷ rs) =
+    omega (arith, renew-one is-erase no-program edition k n (renew-each edition rs), erases-each edition rs)
 
 -- a move to one of the pages
 move-erases : (edition p o : ℕ) (rs : List Setting) (ps : List Page) → p < length ps → erases (move-steps edition p o rs ps) + 1 ≡ length ps
-unfolding move-steps renew-picked fill-steps
+unfolding move-steps renew-picked erases
 move-erases edition p o rs ps l =
     let others = renewals (λ j s. other p j) (greatest-wear ps) 0 ps in
-    let done = word-steps p done-place (done-word o) in
-    let copied = slots-steps p 0 (map record-of rs) in
-    let opened = word-steps p opening-place (opening-word 2 o) in
-    let none-yet : erases (opened ++ copied ++ done) ≡ 0 =
-    erases-none (opened ++ copied) done (erases-none opened copied (erases-word p opening-place (opening-word 2 o)) (erases-slots p 0 (map record-of rs)))
-    (erases-word p done-place (done-word o)) in
-    ap (λ (n : ℕ). n + 1) (erases-after (opened ++ copied ++ done) (renew-each edition others) none-yet ∙ erases-each edition others)
-    ∙ renewals-others p (greatest-wear ps) 0 ps (omega arith) (omega arith)
+    omega (
+      arith,
+      none-before is-erase no-program (fill-steps p o rs) (renew-each edition others) (fill-none is-erase no-program p o rs),
+      erases-each edition others,
+      renewals-others p (greatest-wear ps) 0 ps (omega arith) (omega arith),
+    )
 
 -- a write that moves, moves to the page that is taken
 move-is : (c : Change) (ps : List Page) → moves (way c ps) ≡ true → way c ps ≡ move-to (taken ps) (next-order ps)
@@ -91,12 +70,10 @@ move-wears fm i o c ok m =
 
 -- the other ways
 way-erases : (edition : ℕ) (c : Change) (ps : List Page) (w : Way) → moves w ≡ false → erases (way-steps edition c ps w) ≡ 0
-unfolding way-steps append-steps open-steps moves erases count
+unfolding way-steps append-steps moves erases count
 way-erases edition c ps stay m = refl
-way-erases edition c ps (append-to p k) m = erases-slots p k (words-of c)
-way-erases edition c ps (open-at p o) m =
-    erases-none (word-steps p opening-place (opening-word 1 o)) (slots-steps p 0 (words-of c)) (erases-word p opening-place (opening-word 1 o))
-    (erases-slots p 0 (words-of c))
+way-erases edition c ps (append-to p k) m = slots-none is-erase no-program p k (words-of c)
+way-erases edition c ps (open-at p o) m = open-none is-erase no-program p o c
 way-erases edition c ps (move-to p o) m = not-both refl m
 
 pub others-wear-none : another-write-wears-none

@@ -29,7 +29,7 @@ module _ (c : Frame) where
   abbrev clear-pages : ℕ → Pages
   clear-pages n = replicate n clear-page
 
-  clear-state : state e clear-page ≡ cleared 1
+  pub clear-state : state e clear-page ≡ cleared 1
   clear-state = fresh-cleared e 1 (suc (suc (slots-in c)))
 
   clear-whole : (n : ℕ) → AllWhole c (clear-pages n)
@@ -49,12 +49,12 @@ module _ (c : Frame) where
   clear-base zero = refl
   clear-base (suc n) = rw (clear-state, clear-base n)
 
-  clear-unused : (n : ℕ) → NoneUsed 0 (told e (clear-pages n))
+  pub clear-unused : (n : ℕ) → NoneUsed 0 (told e (clear-pages n))
   unfolding NoneUsed page used
   clear-unused zero = tt
   clear-unused (suc n) = (rw clear-state, clear-unused n)
 
-  opened-state : state e (opened e (slots-in c)) ≡ open₁ 0
+  pub opened-state : state e (opened e (slots-in c)) ≡ open₁ 0
   opened-state = opened-plain e (wear-word e 1) (wear-is-wear e 1) 0 (replicate (suc (slots-in c)) blank-word)
 
   pub format-base : (n : ℕ) → base (states (told e (formatted e (slots-in c) n))) ≡ 0

@@ -14,6 +14,7 @@ pub mod Conditions
 pub mod Slots
 pub mod Groups
 pub mod Stores
+pub mod Erasing
 pub mod Active
 pub mod Building
 pub mod Renewing

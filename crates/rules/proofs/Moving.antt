@@ -49,7 +49,7 @@ idle-amid edition o picks i (x ∷ f) pg r a c h =
 -- ---- the whole move
 
 module _ (c : Frame) (J : List Setting) (f : Pages) (w : Word) (r : Pages) (t : Taking c J f w r) where
-  abbrev pub o : ℕ
+  abbrev o : ℕ
   o = next c J f w r t
 
   abbrev Old : Pages → Type 0
@@ -60,7 +60,7 @@ module _ (c : Frame) (J : List Setting) (f : Pages) (w : Word) (r : Pages) (t : 
   receives d ws = w ∷ opening-word 2 o ∷ d ∷ ws
 
   -- the store while it does
-  abbrev pub receiving : Word → List Word → Pages
+  abbrev receiving : Word → List Word → Pages
   receiving d ws = f ++ receives d ws ∷ r
 
   receiving-keeps : (d : Word) (ws : List Word) → sound d ≡ false → Whole c (receives d ws) → Old (receiving d ws)
@@ -76,7 +76,7 @@ module _ (c : Frame) (J : List Setting) (f : Pages) (w : Word) (r : Pages) (t : 
     abbrev j : ℕ
     j = slots-in c - length ws
 
-    abbrev pub filled : List Word
+    abbrev filled : List Word
     filled = ws ++ replicate j blank-word
 
     abbrev New : Pages → Type 0
@@ -189,7 +189,7 @@ module _ (c : Frame) (J : List Setting) (f : Pages) (w : Word) (r : Pages) (t : 
         ∙ ap (store-run k doing) (store-run-append k opening copying F ∙ ap (store-run k copying) opening-run ∙ copies-run) ∙ done-run
 
     -- the steps of the move
-    abbrev pub moving : List Step
+    abbrev moving : List Step
     moving = move-steps (c .form .edition) (length f) o cs (told (c .form .edition) (pages-now c J f w r t))
 
     pub move-run : store-run (words-in c) moving (pages-now c J f w r t)

@@ -46,7 +46,7 @@ module _ (c : Frame) (J : List Setting) (f : Pages) (w : Word) (r : Pages) (t : 
   abbrev pub begun : Word → List Word
   begun v = w ∷ v ∷ replicate (suc (slots-in c)) blank-word
 
-  abbrev pub b : ℕ
+  abbrev b : ℕ
   b = t .good .base-order
 
   abbrev h : Kept pages-now
@@ -121,7 +121,7 @@ module _ (c : Frame) (J : List Setting) (f : Pages) (w : Word) (r : Pages) (t : 
 
   -- ---- with its opening word of kind 1 the page is the newest, and the journal is the same
 
-  abbrev pub qg : List Word
+  abbrev qg : List Word
   qg = begun (opening-word 1 next)
 
   opened : state (c .form .edition) qg ≡ open₁ next

@@ -505,20 +505,21 @@ taken-least k j m ps e = from-least m k ps (subst (From m) (sym e) (omega arith)
 
 -- ---- counting
 
+pub used-not-cleared : (b : ℕ) (s : State) → used b s ≡ true → is-cleared s ≡ false
+unfolding used is-cleared
+used-not-cleared b (cleared n) u = not-both u refl
+used-not-cleared b (open₁ o) u = refl
+used-not-cleared b (open₂ o) u = refl
+used-not-cleared b receiving u = refl
+used-not-cleared b bad u = refl
+
 -- every page is used, cleared or neither
 pub count-all : (b : ℕ) (ss : List State) → count (used b) ss + count is-cleared ss + count (unclean b) ss ≡ length ss
 unfolding count unclean used is-cleared
 count-all b [] = refl
-count-all b (s ∷ ss) = let rest = count-all b ss in count-one (used b s) (is-cleared s) (λ u c. used-not-cleared b s u c) (count (used b) ss)
+count-all b (s ∷ ss) = let rest = count-all b ss in count-one (used b s) (is-cleared s) (λ u c. not-both c (used-not-cleared b s u)) (count (used b) ss)
     (count is-cleared ss) (count (unclean b) ss) (length ss) rest
   where
-    used-not-cleared : (b : ℕ) (s : State) → used b s ≡ true → is-cleared s ≡ true → ⊥
-    used-not-cleared b (cleared n) u c = not-both u refl
-    used-not-cleared b (open₁ o) u c = not-both c refl
-    used-not-cleared b (open₂ o) u c = not-both c refl
-    used-not-cleared b receiving u c = not-both c refl
-    used-not-cleared b bad u c = not-both c refl
-
     count-one : (x y : Bool) → (x ≡ true → y ≡ true → ⊥) → (p q r l : ℕ) → p + q + r ≡ l
         → cond x 1 0 + p + (cond y 1 0 + q) + (cond (not (x || y)) 1 0 + r) ≡ suc l
     count-one true true d p q r l e = absurd (d refl refl)

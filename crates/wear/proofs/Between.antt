@@ -1,18 +1,19 @@
 -- How many single writes of new values come before the next move: each of them leaves one less, a move comes where none is left, and gives
 -- it anew. Assumes nothing.
 use Prim.Native.Nat.{ℕ, suc, _+_, _-_, _*_}
-use mathlib.Core.Path.{_≡_, refl, sym, ap, _∙_, subst}
+use mathlib.Core.Path.{_≡_, refl, ap, _∙_, subst}
 use mathlib.Core.Bool.{true, false, cond}
 use mathlib.Core.List.{List, [], _∷_}
 use native.Mathlib.Nat.{zero-mul, suc-mul}
 use native.Mathlib.Omega.{arith}
-use lib.ListN.{length, length-append}
+use lib.ListN.{length}
 use lib.Dec.{leb}
 use borrow.Author.Tests.{leb-true, leb-false}
-use Rattle.rules.specs.Page.{State, Page, slots}
+use Rattle.rules.specs.Page.{Page, slots}
 use Rattle.rules.specs.Store.{states, is-cleared, active-slots, free-slot, has-room, count, held, Setting}
 use Rattle.rules.specs.Steps.{Change, settings-of, words-of, all-values, way, new-page}
 use Rattle.rules.proofs.Truth.{by-cases, not-both}
+use Rattle.rules.proofs.Stores.{used-not-cleared}
 use Rattle.rules.proofs.Phases.{Pages}
 use Rattle.rules.proofs.Cut.{AllLength}
 use Rattle.rules.proofs.Told.{length-amid}
@@ -22,7 +23,7 @@ use Rattle.rules.proofs.Appending.{at-active, slotted}
 use Rattle.promise.specs.Corollaries.{moves}
 use Rattle.wear.specs.Wear.{between-moves}
 use Rattle.wear.proofs.Finished.{told-in, AllRenewed, Landed, Wrote, stayed, appended, opened, moved}
-use Rattle.wear.proofs.Level.{used-not, count-amid, cleared-before}
+use Rattle.wear.proofs.Level.{count-amid, many-parted, same-states, cleared-before}
 
 -- as many as the active page has free slots, and all cleared pages but one
 abbrev pub before-move : (slots : ℕ) → List Page → ℕ
@@ -83,7 +84,7 @@ module _ (c : Frame) (ch : Change) (F G : Pages) where
       → count is-cleared (states qs) ≡ count is-cleared (states g) + count is-cleared (states t)
   cleared-now {g = g} {t} {q = q} l =
       ap (λ (xs : List Page). count is-cleared (states xs)) (l .after) ∙ count-amid g q t
-      ∙ (let z : _≡_ {A = ℕ} (cond (is-cleared (q .state)) 1 0) 0 = rw (used-not _ (q .state) (l .is-used)) in omega arith)
+      ∙ (let z : _≡_ {A = ℕ} (cond (is-cleared (q .state)) 1 0) 0 = rw (used-not-cleared _ (q .state) (l .is-used)) in omega arith)
 
   -- a write of one word that has not moved took one
   pub one-taken : length (words-of ch) ≡ 1 → length (active-slots ps) ≡ s → Wrote c ch F G → all-values (settings-of ch) ps ≡ false → moves (way ch ps) ≡ false
@@ -94,11 +95,7 @@ module _ (c : Frame) (ch : Change) (F G : Pages) where
       let was : free-slot (active-slots ps) ≡ free-slot (p .slots) = ap (λ (x : Page). free-slot (x .slots)) is in
       let now = free-now l ∙ taken in
       let fits = leb-true (free-slot (active-slots ps) + length (words-of ch)) (length (active-slots ps)) free in
-      let alike : count is-cleared (states qs) ≡ count is-cleared (states ps) =
-      ap (λ (xs : List Page). count is-cleared (states xs)) (l .after) ∙ count-amid f q r
-      ∙ ap (λ (x : State). count is-cleared (states f) + (cond (is-cleared x) 1 0 + count is-cleared (states r))) same
-      ∙ sym (ap (λ (xs : List Page). count is-cleared (states xs)) (l .before) ∙ count-amid f p r) in
-      rw alike (omega arith)
+      rw (same-states c ch F G l same) (omega arith)
   one-taken one-word long (opened {f} {r} {p} {q} l st full two n is least ordered base-same taken) new m =
       let now = free-now l ∙ taken in
       let none = no-free s ch one-word ps long full in
@@ -116,6 +113,6 @@ module _ (c : Frame) (ch : Change) (F G : Pages) where
   move-gives (appended l st free is same base-same taken) m = not-both m (rw (st, free))
   move-gives (opened l st full two n is least ordered base-same taken) m = not-both m (rw (st, full, two))
   move-gives (moved {f} {r} {g} {t} {p} {q} l st full one n is least ordered all-f all-r taken) m =
-      let many : length ps ≡ length f + (1 + length r) = ap length (l .before) ∙ length-append f (p ∷ r) ∙ omega arith in
-      let cleared-left : count is-cleared (states qs) - 1 ≡ length ps - 2 = omega (arith, cleared-now l, all-cleared f g all-f, all-cleared r t all-r) in
+      let cleared-left : count is-cleared (states qs) - 1 ≡ length ps - 2 =
+      omega (arith, many-parted c ch F G l, cleared-now l, all-cleared f g all-f, all-cleared r t all-r) in
       rw (cleared-left, free-now l ∙ taken) refl

@@ -3,7 +3,7 @@ use Prim.Native.Nat.{ℕ, zero, suc, _+_, _-_, _*_, _≤_, _<_, min}
 use mathlib.Core.Path.{_≡_, refl, sym, ap, _∙_, subst}
 use mathlib.Core.Bool.{true, false, cond, not}
 use mathlib.Core.List.{List, []}
-use native.Mathlib.Nat.{suc-mul, mul-suc, zero-mul, mul-le-mul-right, lt-of-mul-lt-mul-left, lt-of-mul-lt-mul-right, div-mul-le-self}
+use native.Mathlib.Nat.{mul-suc, zero-mul, mul-le-mul-right, lt-of-mul-lt-mul-left, lt-of-mul-lt-mul-right, div-mul-le-self}
 use native.Mathlib.Omega.{arith}
 use lib.ListN.{length}
 use borrow.Author.Tests.{not-true, not-false}
@@ -28,7 +28,7 @@ use Rattle.wear.proofs.Finished.{told-in, Wrote, stayed, appended, open
 use Rattle.wear.proofs.Level.{Level}
 use Rattle.wear.proofs.Between.{before-move, none-left, one-taken, move-gives, active-long}
 use Rattle.wear.proofs.Fresh.{format-gives}
-use Rattle.wear.proofs.Even.{Healthily, Done, done, done-well, level-then, recovery-leaves, Laid, laid, Counted, counted, even-share, evenly}
+use Rattle.wear.proofs.Even.{one-or-none, Healthily, Done, done, done-well, level-then, recovery-leaves, Laid, laid, Counted, counted, even-share, evenly}
 
 -- a single change is of one word
 one-word : (ch : Change) → is-single ch ≡ true → length (words-of ch) ≡ 1
@@ -171,12 +171,6 @@ module _ (chip : Chip) (roomy : RoomyChip chip) (C : Calls) (obeys : Obeys chip 
       enough : (n - 1) * s + t .moved * cycle ≤ t .changes + left i
       last-move : (m : ℕ) → t .moved ≡ suc m → (n - 1) * s + m * cycle < t .changes
 
-    one-more-time : (m x : ℕ) → (1 + m) * x ≡ m * x + x
-    one-more-time m x = let e : 1 + m ≡ suc m = omega arith in ap (λ (y : ℕ). y * x) e ∙ suc-mul m x
-
-    as-often : (m x : ℕ) → (0 + m) * x ≡ m * x
-    as-often m x = let e : 0 + m ≡ m = omega arith in ap (λ (y : ℕ). y * x) e
-
     paid-write : (t : Tally) (ch : Change) {j k : Image} → Writes chip C ch j k → SingleHolding chip most ch k
         → Counted chip roomy C obeys (with-write chip ch j t) k → Paid t j → Paid (with-write chip ch j t) k
     paid-write t ch {j} {k} w such stands h =
@@ -192,7 +186,7 @@ module _ (chip : Chip) (roomy : RoomyChip chip) (C : Calls) (obeys : Obeys chip 
         record {
           stands = stands;
           many = many;
-          enough = rw (new, is, one-more-time (t .moved) cycle) (omega (arith, such .1));
+          enough = rw (new, is, one-or-none true (t .moved) cycle) (omega (arith, such .1));
           last-move = λ m e.
               let it : m ≡ t .moved = (let f : 1 + t .moved ≡ suc m = rw is at e in omega arith) in
               rw (new, it) (omega arith);
@@ -203,7 +197,7 @@ module _ (chip : Chip) (roomy : RoomyChip chip) (C : Calls) (obeys : Obeys chip 
         record {
           stands = stands;
           many = many;
-          enough = rw (new, still, as-often (t .moved) cycle) (omega arith);
+          enough = rw (new, still, one-or-none false (t .moved) cycle) (omega arith);
           last-move = λ m e. rw new (omega (arith, h .last-move m (let f : 0 + t .moved ≡ suc m = rw still at e in omega arith)));
         }))
         (λ old.
@@ -211,7 +205,7 @@ module _ (chip : Chip) (roomy : RoomyChip chip) (C : Calls) (obeys : Obeys chip 
         record {
           stands = stands;
           many = many;
-          enough = rw (old, still, as-often (t .moved) cycle) (omega (arith, h .enough, ap (before-move s) (same-pages d old)));
+          enough = rw (old, still, one-or-none false (t .moved) cycle) (omega (arith, h .enough, ap (before-move s) (same-pages d old)));
           last-move = λ m e. rw old (omega (arith, h .last-move m (let f : 0 + t .moved ≡ suc m = rw still at e in omega arith)));
         })
 

@@ -2,22 +2,23 @@
 use Prim.Native.Nat.{ℕ, zero, suc, _+_, _≤_, _<_, max}
 use mathlib.Core.Path.{_≡_, refl, sym, ap, _∙_, subst}
 use mathlib.Core.Bool.{Bool, true, false, cond, not, _&&_}
-use mathlib.Core.List.{List, [], _∷_, _++_, map}
+use mathlib.Core.List.{List, [], _∷_, _++_}
 use mathlib.Core.Option.{some}
 use native.Mathlib.Omega.{arith}
 use lib.ListN.{length}
 use lib.Dec.{eqb, leb}
 use borrow.Author.Tests.{eq-eqb, ne-eqb, eqb-true, eqb-false}
-use Rattle.rules.specs.Flash.{Step}
-use Rattle.rules.specs.Word.{Word, word, wear-word, opening-word, done-word, word-steps}
-use Rattle.rules.specs.Page.{Page, wear-place, opening-place, done-place, slot-place}
+use Rattle.rules.specs.Flash.{Half, Step, program}
+use Rattle.rules.specs.Word.{opening-word, word-steps}
+use Rattle.rules.specs.Page.{Page, opening-place}
 use Rattle.rules.specs.Store.{each, states, is-cleared, count, has-room, page-at, index, Setting, settings}
-use Rattle.rules.specs.Steps.{one-more, renew, renew-all, format-steps, renewed-wear, greatest-wear, renewals, renew-each, renew-picked, other, slots-steps}
-use Rattle.rules.specs.Steps.{record-of, Change}
+use Rattle.rules.specs.Steps.{one-more, renew, renew-all, format-steps, renewed-wear, greatest-wear, renewals, renew-each, renew-picked, other}
+use Rattle.rules.specs.Steps.{Change}
 use Rattle.rules.specs.Steps.{settings-of, words-of, all-values, taken, next-order, move-records, append-steps}
-use Rattle.rules.specs.Steps.{open-steps, fill-steps, move-steps, new-page, way, way-steps, write-steps}
+use Rattle.rules.specs.Steps.{fill-steps, move-steps, new-page, way, way-steps, write-steps}
 use Rattle.rules.proofs.Truth.{by-cases}
 use Rattle.rules.proofs.Stores.{count-append}
+use Rattle.rules.proofs.Erasing.{none-before, word-none, slots-none, open-none, fill-none, renew-one}
 use Rattle.rules.proofs.Phases.{Pages}
 use Rattle.rules.proofs.Good.{Frame}
 use Rattle.promise.specs.Corollaries.{moves}
@@ -27,23 +28,13 @@ use Rattle.wear.proofs.Finished.{told-in, Renewed, AllRenewed, Landed, 
 -- ---- how often steps erase a page
 
 module _ (p : ℕ) where
-  past : (xs ys : List Step) → erases-of p xs ≡ 0 → erases-of p (xs ++ ys) ≡ erases-of p ys
-  unfolding erases-of
-  past xs ys z = omega (arith, count-append (erases-it p) xs ys)
-
-  word-none : (k at : ℕ) (w : Word) → erases-of p (word-steps k at w) ≡ 0
-  unfolding erases-of erases-it count word-steps
-  word-none k at (word a b c d) = refl
-
-  slots-none : (k at : ℕ) (ws : List Word) → erases-of p (slots-steps k at ws) ≡ 0
-  unfolding erases-of count slots-steps
-  slots-none k at [] = refl
-  slots-none k at (w ∷ ws) = past (word-steps k (slot-place at) w) (slots-steps k (suc at) ws) (word-none k (slot-place at) w) ∙ slots-none k (suc at) ws
+  no-program : (q w : ℕ) (h : Half) (low high : ℕ) → erases-it p (program q w h low high) ≡ false
+  unfolding erases-it
+  no-program q w h low high = refl
 
   renew-once : (edition k wear : ℕ) (ss : List Step) → erases-of p (renew edition k wear ++ ss) ≡ cond (eqb k p) 1 0 + erases-of p ss
-  unfolding erases-of erases-it count renew
-  renew-once edition k wear ss =
-      ap (λ (n : ℕ). cond (eqb k p) 1 0 + n) (past (word-steps k wear-place (wear-word edition wear)) ss (word-none k wear-place (wear-word edition wear)))
+  unfolding erases-of erases-it
+  renew-once edition k wear ss = renew-one (erases-it p) no-program edition k wear ss
 
   module _ (edition q : ℕ) where
     -- the steps that renew every page but q, from the k-th on
@@ -81,14 +72,9 @@ module _ (p : ℕ) where
         (λ o. rw o (once g (suc k) ps (omega arith) (omega arith))))
 
     move-erases : (o : ℕ) (rs : List Setting) (ps : List Page) → p < length ps → erases-of p (move-steps edition q o rs ps) ≡ cond (other q p) 1 0
-    unfolding move-steps renew-picked fill-steps
+    unfolding move-steps renew-picked erases-of
     move-erases o rs ps l =
-        let opening = word-steps q opening-place (opening-word 2 o) in
-        let copied = slots-steps q 0 (map record-of rs) in
-        let done = word-steps q done-place (done-word o) in
-        past (opening ++ copied ++ done) (renewing (greatest-wear ps) 0 ps)
-        (past (opening ++ copied) done (past opening copied (word-none q opening-place (opening-word 2 o)) ∙ slots-none q 0 (map record-of rs))
-        ∙ word-none q done-place (done-word o))
+        none-before (erases-it p) no-program (fill-steps q o rs) (renewing (greatest-wear ps) 0 ps) (fill-none (erases-it p) no-program q o rs)
         ∙ once (greatest-wear ps) 0 ps (omega arith) (omega arith)
 
   -- a write that moves erases each page but the one that is taken, another write none
@@ -96,13 +82,11 @@ module _ (p : ℕ) where
   erased-by c ps = moves (way c ps) && other (taken ps) p
 
   pub write-erases : (edition : ℕ) (c : Change) (ps : List Page) → p < length ps → erases-of p (write-steps edition c ps) ≡ cond (erased-by c ps) 1 0
-  unfolding write-steps way way-steps new-page append-steps open-steps moves erases-of count
+  unfolding write-steps way way-steps new-page append-steps moves erases-of count
   write-erases edition c ps l =
       by-cases (all-values (settings-of c) ps) (λ s. rw s)
-      (λ s. by-cases (has-room (length (words-of c)) ps) (λ f. rw (s, f) (slots-none _ _ (words-of c)))
-      (λ f. by-cases (leb 2 (count is-cleared (states ps)))
-      (λ d. rw (s, f, d) (past (word-steps (taken ps) opening-place (opening-word 1 (next-order ps))) (slots-steps (taken ps) 0 (words-of c))
-      (word-none (taken ps) opening-place (opening-word 1 (next-order ps))) ∙ slots-none (taken ps) 0 (words-of c)))
+      (λ s. by-cases (has-room (length (words-of c)) ps) (λ f. rw (s, f) (slots-none (erases-it p) no-program _ _ (words-of c)))
+      (λ f. by-cases (leb 2 (count is-cleared (states ps))) (λ d. rw (s, f, d) (open-none (erases-it p) no-program (taken ps) (next-order ps) c))
       (λ d. rw (s, f, d) (move-erases edition (taken ps) (next-order ps) (move-records (settings-of c) (settings ps)) ps l))))
 
 -- a format erases each page once
@@ -127,7 +111,7 @@ format-erases edition n p l =
     omega (
       arith,
       count-append (erases-it p) (renew-all edition 0 n) (word-steps 0 opening-place (opening-word 1 0)),
-      word-none p 0 opening-place (opening-word 1 0),
+      word-none (erases-it p) (no-program p) 0 opening-place (opening-word 1 0),
       all-once p edition 0 n (omega arith) (omega arith),
     )
 

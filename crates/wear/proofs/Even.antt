@@ -17,6 +17,7 @@ use Rattle.rules.specs.Steps.{one-more, greatest-wear, Change, settings-of, wor
 use Rattle.rules.specs.Call.{RoomyChip, form-of, page-count, pages, store-number, order-end, accepted, stepped, recover, Formatted, Stepped}
 use Rattle.rules.proofs.Truth.{by-cases, not-both}
 use Rattle.rules.proofs.Rows.{not-for-order}
+use Rattle.rules.proofs.Stores.{used-not-cleared}
 use Rattle.rules.proofs.Settings.{none-some}
 use Rattle.rules.proofs.Cut.{pages-long}
 use Rattle.rules.proofs.Phases.{Pages}
@@ -33,12 +34,17 @@ use Rattle.promise.proofs.Kept.{Well, wrote-number, write-image, write-done}
 use Rattle.wear.specs.Wear.{pages-in, Worn, wears, sum, erases-of, Tally, nothing-yet, with-write, is-move, Fresh, formatted, Writes, Steady, begins}
 use Rattle.wear.specs.Wear.{written, refused, recovered, wears-evenly}
 use Rattle.wear.proofs.Finished.{told-in, Wrote, wrote, finished-pages}
-use Rattle.wear.proofs.Level.{Levelled, used-page, cleared-page, AllLevelled, Level, used-not, has-wear, stays-level, nothing-to-do}
+use Rattle.wear.proofs.Level.{Levelled, used-page, cleared-page, AllLevelled, Level, has-wear, stays-level, nothing-to-do}
 use Rattle.wear.proofs.Sums.{Adds, adds}
 use Rattle.wear.proofs.Between.{active-long}
 use Rattle.wear.proofs.Orders.{ahead, ahead-then, orders-left}
 use Rattle.wear.proofs.Erases.{erased-by, write-erases, wear-after}
 use Rattle.wear.proofs.Fresh.{fresh-pages, fresh-level, fresh-worn, fresh-wears, fresh-ahead}
+
+-- so often, and once more or not
+pub one-or-none : (more : Bool) (k x : ℕ) → (cond more 1 0 + k) * x ≡ k * x + cond more x 0
+one-or-none true k x = let e : 1 + k ≡ suc k = omega arith in ap (λ (y : ℕ). y * x) e ∙ suc-mul k x
+one-or-none false k x = let e : 0 + k ≡ k = omega arith in ap (λ (y : ℕ). y * x) e ∙ omega arith
 
 module _ (chip : Chip) (roomy : RoomyChip chip) (C : Calls) (obeys : Obeys chip C) where
   -- a healthy store
@@ -126,8 +132,7 @@ module _ (chip : Chip) (roomy : RoomyChip chip) (C : Calls) (obeys : Obeys chip 
 
   -- one move more, or none
   share-then : (n k : ℕ) (moves : Bool) → n + k * (n - 1) + cond moves (n - 1) 0 ≡ n + (cond moves 1 0 + k) * (n - 1)
-  share-then n k true = let e = suc-mul k (n - 1) in let f : 1 + k ≡ suc k = omega arith in rw f (omega arith)
-  share-then n k false = let f : 0 + k ≡ k = omega arith in rw f (omega arith)
+  share-then n k moves = omega (arith, one-or-none moves k (n - 1))
 
   -- one erase more, or none
   wear-then : (b : Bool) (x m : ℕ) → m ≡ cond b 1 0 → cond b (one-more (min (1 + x) 65535)) (min (1 + x) 65535) ≡ min (1 + (m + x)) 65535
@@ -302,7 +307,7 @@ module _ (chip : Chip) (roomy : RoomyChip chip) (C : Calls) (obeys : Obeys chip 
   cleared-at b w t (x ∷ ps) h zero n is u = one (h .0)
     where
       one : Levelled b w t x → t ≤ n
-      one (used-page m has at l k) = not-both u (used-not b (x .state) at)
+      one (used-page m has at l k) = not-both u (used-not-cleared b (x .state) at)
       one (cleared-page m has at l k c) = let same : some n ≡ some m = sym is ∙ has in let it : n ≡ m = cc in omega arith
   cleared-at b w t (x ∷ ps) h (suc p) n is u = cleared-at b w t ps (h .1) p n is u
 

@@ -1,6 +1,6 @@
 -- A finished format leaves a level store, every page of wear 1, and the slots of every page but one to be taken before a move. Assumes nothing.
 use Prim.Native.Nat.{ℕ, zero, suc, _-_, _*_, _≤_, _<_}
-use mathlib.Core.Path.{_≡_, refl}
+use mathlib.Core.Path.{_≡_, refl, ap, _∙_}
 use mathlib.Core.Bool.{false}
 use mathlib.Core.List.{List, []}
 use mathlib.Core.Option.{some}
@@ -8,20 +8,20 @@ use native.Mathlib.Nat.{suc-mul}
 use native.Mathlib.Omega.{arith}
 use lib.ListN.{replicate}
 use borrow.Author.Tests.{le-leb}
-use Rattle.rules.specs.Word.{wear-word}
-use Rattle.rules.specs.Page.{blank-word, wear-part, wear-in, open₁, Page, page, state, slots}
+use Rattle.rules.specs.Page.{blank-word, wear-part, wear-in, Page, page, slots}
 use Rattle.rules.specs.Store.{states, used, is-cleared, active-page, active-slots, active-index, free-slot, has-room, open-group, in-group, end-of}
 use Rattle.rules.specs.Store.{order, used-orders, add-order, active-order, greatest, outside, place-behind, page-at, count, or-value}
 use Rattle.rules.proofs.Truth.{and-second}
 use Rattle.rules.proofs.Words.{wear-is}
-use Rattle.rules.proofs.Pages.{wear-is-wear, opened-plain, fresh-cleared}
+use Rattle.rules.proofs.Pages.{wear-is-wear}
+use Rattle.rules.proofs.Stores.{orders, orders-used, none-used-pages}
 use Rattle.rules.proofs.Slots.{as-slots, unsound-stays, blanks-unsound}
 use Rattle.rules.proofs.Told.{told}
 use Rattle.rules.proofs.Building.{AllSound}
 use Rattle.rules.proofs.Renewing.{fresh, opened, formatted}
 use Rattle.rules.proofs.Wears.{fresh-wear}
 use Rattle.rules.proofs.Good.{Frame, slots-in}
-use Rattle.rules.proofs.Formatting.{format-base}
+use Rattle.rules.proofs.Formatting.{clear-state, opened-state, clear-unused, format-base}
 use Rattle.wear.specs.Wear.{sum, wears}
 use Rattle.wear.proofs.Finished.{free-sound}
 use Rattle.wear.proofs.Level.{used-page, cleared-page, AllLevelled, Level}
@@ -48,9 +48,6 @@ module _ (c : Frame) where
   abbrev others : ℕ → List Page
   others n = told e (replicate n (fresh e (suc (suc s)) 1))
 
-  first-state : state e (opened e s) ≡ open₁ 0
-  first-state = opened-plain e (wear-word e 1) (wear-is-wear e 1) 0 (replicate (suc s) blank-word)
-
   first-worn : first-page .wear ≡ some 1
   unfolding page wear-in wear-part
   first-worn = rw (wear-is-wear e 1, wear-is e 1)
@@ -62,7 +59,7 @@ module _ (c : Frame) where
   others-level : (n : ℕ) → AllLevelled 0 1 1 (others n)
   unfolding AllLevelled page
   others-level zero = tt
-  others-level (suc n) = (cleared-page 1 other-worn (fresh-cleared e 1 (suc (suc s))) (omega arith) (omega arith) (omega arith), others-level n)
+  others-level (suc n) = (cleared-page 1 other-worn (clear-state c) (omega arith) (omega arith) (omega arith), others-level n)
 
   -- no slot is taken anywhere, and no group is open
   blank-free : (n : ℕ) → free-slot (replicate n blank-word) ≡ 0
@@ -90,7 +87,7 @@ module _ (c : Frame) where
   pub fresh-level : (n : ℕ) → Level (fresh-pages n)
   unfolding AllLevelled page used open-group active-page
   fresh-level n =
-      let st = first-state in
+      let st = opened-state c in
       let ps = fresh-pages n in
       record {
         low = 1;
@@ -119,17 +116,16 @@ module _ (c : Frame) where
   others-cleared : (n : ℕ) → count is-cleared (states (others n)) ≡ n
   unfolding count states is-cleared page
   others-cleared zero = refl
-  others-cleared (suc n) = rw (fresh-cleared e 1 (suc (suc s))) (omega (arith, others-cleared n))
+  others-cleared (suc n) = rw (clear-state c) (omega (arith, others-cleared n))
 
   others-unused : (n : ℕ) → used-orders 0 (states (others n)) ≡ []
-  unfolding used-orders add-order states used page
-  others-unused zero = refl
-  others-unused (suc n) = rw (fresh-cleared e 1 (suc (suc s))) (others-unused n)
+  unfolding orders
+  others-unused n = orders-used 0 (others n) ∙ ap orders (none-used-pages 0 (others n) (clear-unused c n))
 
   -- the first page is of order 0, and every other one is cleared
   pub fresh-ahead : (n : ℕ) → ahead (fresh-pages n) ≡ n
   unfolding active-order used-orders add-order states used order greatest page count is-cleared
-  fresh-ahead n = rw (format-base c n, first-state, others-unused n) (omega (arith, others-cleared n))
+  fresh-ahead n = rw (format-base c n, opened-state c, others-unused n) (omega (arith, others-cleared n))
 
   -- every page but the first is cleared, so the slots of all but one page are taken before a move
   pub format-gives : (n : ℕ) → 1 ≤ n → before-move s (fresh-pages n) ≡ n * s
@@ -137,6 +133,6 @@ module _ (c : Frame) where
   format-gives zero l = absurd (omega arith)
   format-gives (suc n) l =
       let ps = fresh-pages (suc n) in
-      let st = first-state in
+      let st = opened-state c in
       let many : count is-cleared (states ps) - 1 ≡ n = rw st (omega (arith, others-cleared (suc n))) in
       rw (many, all-free (suc n) (active-index (states ps))) (omega (arith, suc-mul n s))

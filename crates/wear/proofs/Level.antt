@@ -6,9 +6,9 @@ use mathlib.Core.Bool.{true, false, cond}
 use mathlib.Core.List.{List, [], _∷_, _++_}
 use mathlib.Core.Option.{some}
 use native.Mathlib.Omega.{arith}
-use lib.ListN.{length}
+use lib.ListN.{length, length-append}
 use borrow.Author.Tests.{leb-false}
-use Rattle.rules.specs.Page.{State, cleared, open₁, open₂, receiving, bad, Page}
+use Rattle.rules.specs.Page.{State, cleared, Page}
 use Rattle.rules.specs.Store.{states, base, used, is-cleared, open-group, has-room, in-group, end-of, count}
 use Rattle.rules.specs.Store.{each, page-at}
 use Rattle.rules.specs.Steps.{greatest-wear, renewals, renew-picked, unclean, abandon-steps, recovery-steps, Change}
@@ -91,15 +91,6 @@ renewed-level b w t y b′ l m c (p ∷ ps) (q ∷ qs) h a z =
     one {p} h (cleared-page n has is x v d) z =
         absurd (let z′ : _≡_ {A = ℕ} 1 0 = subst (λ (s : State). _≡_ {A = ℕ} (cond (is-cleared s) 1 0) 0) is z in omega arith)
 
--- a used page is not cleared
-pub used-not : (b : ℕ) (s : State) → used b s ≡ true → is-cleared s ≡ false
-unfolding used is-cleared
-used-not b (cleared n) u = not-both u refl
-used-not b (open₁ o) u = refl
-used-not b (open₂ o) u = refl
-used-not b receiving u = refl
-used-not b bad u = refl
-
 pub count-amid : (f : List Page) (p : Page) (r : List Page)
     → count is-cleared (states (f ++ p ∷ r)) ≡ count is-cleared (states f) + (cond (is-cleared (p .state)) 1 0 + count is-cleared (states r))
 unfolding count states
@@ -122,6 +113,17 @@ module _ (c : Frame) (ch : Change) (F G : Pages) where
 
   abbrev qs : List Page
   qs = told-in c G
+
+  -- the pages are those before the one that is written to, it, and those behind it
+  pub many-parted : {f r g t : List Page} {p q : Page} → Landed c F G f p r g q t → length ps ≡ length f + (1 + length r)
+  many-parted {f} {r} {p = p} l = ap length (l .before) ∙ length-append f (p ∷ r) ∙ omega arith
+
+  -- where that one keeps its state, all do
+  pub same-states : {f r : List Page} {p q : Page} → Landed c F G f p r f q r → q .state ≡ p .state → states qs ≡ states ps
+  unfolding states
+  same-states {f} {r} {p} {q} l same =
+      ap states (l .after) ∙ states-append f (q ∷ r) ∙ ap (λ (x : State). states f ++ x ∷ states r) same
+      ∙ sym (ap states (l .before) ∙ states-append f (p ∷ r))
 
   none-open : {f r g t : List Page} {p q : Page} → Landed c F G f p r g q t → open-group qs ≡ false
   unfolding open-group

@@ -1,25 +1,24 @@
 -- How fast orders grow: the active order and the cleared pages together are more after a move, by one for each page but one, and the same
 -- after any other write. Assumes nothing.
 use Prim.Native.Nat.{ℕ, _+_, _-_, _*_, _≤_, _<_, max}
-use mathlib.Core.Path.{_≡_, sym, ap, _∙_}
+use mathlib.Core.Path.{_≡_}
 use mathlib.Core.Bool.{false, cond, not}
-use mathlib.Core.List.{List, [], _∷_, _++_}
+use mathlib.Core.List.{List, [], _∷_}
 use native.Mathlib.Nat.{suc-mul, zero-mul, mul-le-mul, mul-le-mul-left}
 use native.Mathlib.Omega.{arith}
-use lib.ListN.{length, length-append}
+use lib.ListN.{length}
 use borrow.Author.Tests.{leb-false, ne-eqb}
-use Rattle.rules.specs.Page.{State, Page}
+use Rattle.rules.specs.Page.{Page}
 use Rattle.rules.specs.Store.{states, is-cleared, active-order, count, greatest, has-room, or-value}
 use Rattle.rules.specs.Steps.{greatest-wear, Change, way, new-page, next-order}
 use Rattle.rules.specs.Call.{order-end, order-limit}
 use Rattle.rules.proofs.Truth.{and-second}
-use Rattle.rules.proofs.Stores.{states-append}
 use Rattle.rules.proofs.Phases.{Pages}
 use Rattle.rules.proofs.Good.{Frame}
 use Rattle.promise.specs.Corollaries.{moves}
 use Rattle.wear.specs.Wear.{sum, wears}
 use Rattle.wear.proofs.Finished.{told-in, Wrote, stayed, appended, opened, moved}
-use Rattle.wear.proofs.Level.{cleared-before}
+use Rattle.wear.proofs.Level.{many-parted, same-states, cleared-before}
 use Rattle.wear.proofs.Between.{all-cleared, cleared-now}
 
 -- the active order and the cleared pages
@@ -37,17 +36,22 @@ module _ (c : Frame) (ch : Change) (F G : Pages) where
   unfolding way new-page moves next-order states
   ahead-then (stayed s e) = rw (s, e) (omega arith)
   ahead-then (appended {f} {r} {p} {q} l s free is same base-same taken) =
-      let alike : states qs ≡ states ps =
-      ap states (l .after) ∙ states-append f (q ∷ r) ∙ ap (λ (x : State). states f ++ x ∷ states r) same
-      ∙ sym (ap states (l .before) ∙ states-append f (p ∷ r)) in
-      rw (s, free, alike) (omega arith)
+      rw (s, free, same-states c ch F G l same) (omega arith)
   ahead-then (opened l s full two n is least ordered base-same taken) =
       rw (s, full, two) (omega (arith, l .order-is, ordered, cleared-before c ch F G l is, cleared-now c ch F G l))
   ahead-then (moved {f} {r} {g} {t} {p} {q} l s full one n is least ordered all-f all-r taken) =
       let few = leb-false 2 (count is-cleared (states ps)) one in
-      let many : length ps ≡ length f + (1 + length r) = ap length (l .before) ∙ length-append f (p ∷ r) ∙ omega arith in
       rw (s, full, one)
-      (omega (arith, l .order-is, ordered, cleared-before c ch F G l is, cleared-now c ch F G l, all-cleared f g all-f, all-cleared r t all-r))
+      (omega (
+        arith,
+        l .order-is,
+        ordered,
+        many-parted c ch F G l,
+        cleared-before c ch F G l is,
+        cleared-now c ch F G l,
+        all-cleared f g all-f,
+        all-cleared r t all-r,
+      ))
 
 -- ---- the greatest wear bounds what wears add up to, and so the orders
 

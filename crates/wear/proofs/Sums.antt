@@ -4,7 +4,7 @@ use mathlib.Core.Path.{_≡_, refl, sym, ap, _∙_, subst}
 use mathlib.Core.Bool.{cond}
 use mathlib.Core.List.{List, [], _∷_, _++_, map, map-append}
 use native.Mathlib.Omega.{arith}
-use lib.ListN.{length, length-append}
+use lib.ListN.{length}
 use Rattle.rules.specs.Page.{Page}
 use Rattle.rules.specs.Store.{greatest, or-value}
 use Rattle.rules.specs.Steps.{one-more, greatest-wear, Change, way, new-page}
@@ -14,7 +14,7 @@ use Rattle.rules.proofs.Good.{Frame}
 use Rattle.promise.specs.Corollaries.{moves}
 use Rattle.wear.specs.Wear.{sum, wears}
 use Rattle.wear.proofs.Finished.{told-in, Renewed, AllRenewed, Landed, Wrote, stayed, appended, opened, moved}
-use Rattle.wear.proofs.Level.{Levelled, used-page, cleared-page, AllLevelled, Level, parts}
+use Rattle.wear.proofs.Level.{Levelled, used-page, cleared-page, AllLevelled, Level, many-parted, parts}
 
 -- what a page counts for
 abbrev worn : Page → ℕ
@@ -91,7 +91,7 @@ module _ (c : Frame) (ch : Change) (F G : Pages) where
       let sum-is = ap wears (l .after) ∙ wears-amid g q t in
       let top-was = ap greatest-wear (l .before) ∙ greatest-parted f p r in
       let top-is = ap greatest-wear (l .after) ∙ greatest-parted g q t in
-      let many : length ps ≡ length f + (1 + length r) = ap length (l .before) ∙ length-append f (p ∷ r) ∙ omega arith in
+      let many = many-parted c ch F G l in
       rw (s, full, one)
       (record {
         at-most = omega (arith, front .at-most, rest .at-most);
