@@ -1,25 +1,23 @@
 // The words that broke (L6): how many slots of the used pages are half-written, and how many are spoiled.
-use groups::NONE;
-use groups::Place;
+ghost use Rattle.std.specs.Prelude.{◌≡◌, List, [], ◌∷◌, map, ◌+◌, ◌*◌, ◌≤◌, length};
+ghost use Rattle.rules.specs.Word.{Word as Bytes, words, slot};
+ghost use Rattle.rules.specs.Store.{Place as Standing, outside};
+ghost use Rattle.rules.specs.Page.{size};
+ghost use Rattle.rules.specs.Call.{pages};
+ghost use Rattle.rules.specs.Listing.{condition_at, conditions, used_conditions};
+ghost use Rattle.words.specs.Read.{as_slot};
+ghost use Rattle.groups.specs.Stands.{Stands};
+ghost use Rattle.pages.specs.Read.{as_form, Lawful};
+ghost use Rattle.survey.specs.States.{slots_in};
+ghost use Rattle.survey.specs.Look.{pages_number, Told};
+ghost use Rattle.broken.specs.Counts.{Counts};
+
+use groups::{NONE, Place};
 use pages::Form;
 use survey::Look;
 use words::Slot;
-ghost use mathlib.Core.Path.{_≡_};
-ghost use mathlib.Core.List.{List, [], _∷_, map};
-ghost use Prim.Native.Nat.{_+_, _*_, _≤_};
-ghost use lib.ListN.{length};
-ghost use Rattle·rules.specs.Word.{Word as Bytes, words, slot};
-ghost use Rattle·rules.specs.Store.{Place as Standing, outside};
-ghost use Rattle·rules.specs.Page.{size};
-ghost use Rattle·rules.specs.Call.{pages};
-ghost use Rattle·rules.specs.Listing.{condition-at, conditions, used-conditions};
-ghost use Rattle·words.specs.Read.{as-slot};
-ghost use Rattle·groups.specs.Stands.{Stands};
-ghost use Rattle·pages.specs.Read.{as-form, Lawful};
-ghost use Rattle·survey.specs.States.{slots-in};
-ghost use Rattle·survey.specs.Look.{pages-number, Told};
-ghost use Rattle·broken·specs.specs.Counts.{Counts};
 
+#[derive(Drop)]
 pub struct Broken {
     pub half: usize,
     pub spoiled: usize,
@@ -27,15 +25,15 @@ pub struct Broken {
 
 impl Broken {
     fn of(half: usize, spoiled: usize) -> Broken
-        ensures { λ r. ⌜ (r .half ≡ half) × (r .spoiled ≡ spoiled) ⌝ }
+        ensures { (result.half ≡ half) × (result.spoiled ≡ spoiled) }
     {
         Broken { half, spoiled }
     }
 
     // Both together.
     fn and(self, other: Broken) -> Broken
-        requires { ⌜ (self .half + other .half ≤ 65535) × (self .spoiled + other .spoiled ≤ 65535) ⌝ }
-        ensures { λ r. ⌜ (r .half ≡ self .half + other .half) × (r .spoiled ≡ self .spoiled + other .spoiled) ⌝ }
+        requires { (self.half + other.half ≤ 65535) × (self.spoiled + other.spoiled ≤ 65535) }
+        ensures { (result.half ≡ self.half + other.half) × (result.spoiled ≡ self.spoiled + other.spoiled) }
     {
         Broken::of(self.half + other.half, self.spoiled + other.spoiled)
     }
@@ -43,7 +41,7 @@ impl Broken {
 
 // What an opening counts for where it stands: inside a group it is spoiled.
 fn of_opening(place: Place) -> Broken
-    ensures { λ r. ⌜ (r .half ≡ 0) × (place .number ≡ 0 → r .spoiled ≡ 0) × ((place .number ≡ 0 → ⊥) → r .spoiled ≡ 1) ⌝ }
+    ensures { (result.half ≡ 0) × (place.number ≡ 0 → result.spoiled ≡ 0) × ((place.number ≡ 0 → ⊥) → result.spoiled ≡ 1) }
 {
     if place.number == NONE {
         return Broken::of(0, 0);
@@ -53,7 +51,7 @@ fn of_opening(place: Place) -> Broken
 
 // What a slot of that kind counts for where it stands.
 fn of_slot(s: Slot, place: Place) -> Broken
-    ensures { λ r. ⌜ ((at : Standing) (xs : List Bytes) (w : Bytes) → Stands at xs place → Counts (condition-at at (as-slot w s) ∷ []) r) ⌝ }
+    ensures { (at : Standing) (xs : List Bytes) (w : Bytes) → Stands at xs place → Counts (condition_at at (as_slot w s) ∷ []) result }
 {
     match s {
         Slot::Record => Broken::of(0, 0),
@@ -67,8 +65,8 @@ fn of_slot(s: Slot, place: Place) -> Broken
 
 // The slots of a page of that edition.
 fn of_slots(slots: &[u8], edition: u8) -> Broken
-    requires { ⌜ length (now slots) ≤ 2048 ⌝ }
-    ensures { λ r. ⌜ Counts (conditions outside (map (slot edition) (words (now (slots .entry))))) r ⌝ }
+    requires { length slots.now ≤ 2048 }
+    ensures { Counts (conditions outside (map (slot edition) (words slots.now))) result }
 {
     let count = slots.len() / 4;
     let mut broken = Broken::of(0, 0);
@@ -85,8 +83,8 @@ fn of_slots(slots: &[u8], edition: u8) -> Broken
 
 // The same of the page at an index.
 fn of_page(image: &[u8], form: Form, page: usize) -> Broken
-    requires { ⌜ Lawful form × (page ≤ 32) × (page * size (as-form form) + size (as-form form) ≤ length (now image)) ⌝ }
-    ensures { λ r. ⌜ Counts (conditions outside (map (slot (form .edition)) (slots-in (as-form form) page (now (image .entry))))) r ⌝ }
+    requires { Lawful form × (page ≤ 32) × (page * size (as_form form) + size (as_form form) ≤ length image.now) }
+    ensures { Counts (conditions outside (map (slot form.edition) (slots_in (as_form form) page image.now))) result }
 {
     of_slots(
         survey::slots_of(image, form, page, form.slots),
@@ -97,10 +95,10 @@ fn of_page(image: &[u8], form: Form, page: usize) -> Broken
 // The used pages of an image that is not refused, after one look at it. 32 pages of 509 slots, the most that a lawful form has, are
 // 16,288 slots.
 pub fn count(image: &[u8], form: Form, look: Look) -> Broken
-    requires { ⌜ Lawful form ⌝ }
-    requires { ⌜ (pages-number (as-form form) (now image) ≡ 0) × Told (as-form form) (now image) look ⌝ }
-    ensures { λ r. ⌜ Counts (used-conditions (pages (as-form form) (now (image .entry)))) r ⌝ }
-    ensures { λ r. ⌜ r .half + r .spoiled ≤ 16288 ⌝ }
+    requires lawful { Lawful form }
+    requires image_value { (pages_number (as_form form) image.now ≡ 0) × Told (as_form form) image.now look }
+    ensures counts { Counts (used_conditions (pages (as_form form) image.now)) result }
+    ensures spoiled_bound { result.half + result.spoiled ≤ 16288 }
 {
     let line = look.line;
     let mut broken = Broken::of(0, 0);

@@ -1,19 +1,16 @@
 // The settings of a change, lent as bytes (C1): three for each, its address, low byte first, and its value.
-use words::NO_ADDRESS;
-use words::Word;
-ghost use mathlib.Core.Path.{_≡_};
-ghost use mathlib.Core.List.{map};
-ghost use Prim.Native.Nat.{_+_, _*_, _≤_};
-ghost use lib.ListN.{length, drop};
-ghost use Rattle·rules.specs.Store.{address-of};
-ghost use Rattle·rules.specs.Owner.{named-owner, a-foreign};
-ghost use Rattle·rules.specs.Call.{among, repeats, a-wrong-address, triples};
-ghost use Rattle·changes·specs.specs.Entries.{byte-address, byte-value};
+ghost use Rattle.std.specs.Prelude.{◌≡◌, map, ◌+◌, ◌*◌, ◌≤◌, length, drop};
+ghost use Rattle.rules.specs.Store.{address_of};
+ghost use Rattle.rules.specs.Owner.{named_owner, a_foreign};
+ghost use Rattle.rules.specs.Call.{among, repeats, a_wrong_address, triples};
+ghost use Rattle.changes.specs.Entries.{byte_address, byte_value};
+
+use words::{NO_ADDRESS, Word};
 
 // The address of the k-th setting, and its value.
 pub fn address_at(entries: &[u8], k: usize) -> u16
-    requires { ⌜ 3 * k + 3 ≤ length (now entries) ⌝ }
-    ensures { λ r. ⌜ r ≡ byte-address (now (entries .entry)) k ⌝ }
+    requires { 3 * k + 3 ≤ length entries.now }
+    ensures { result ≡ byte_address entries.now k }
 {
     words::low16(Word {
         a: entries[3 * k],
@@ -24,16 +21,16 @@ pub fn address_at(entries: &[u8], k: usize) -> u16
 }
 
 pub fn value_at(entries: &[u8], k: usize) -> u8
-    requires { ⌜ 3 * k + 3 ≤ length (now entries) ⌝ }
-    ensures { λ r. ⌜ r ≡ byte-value (now (entries .entry)) k ⌝ }
+    requires { 3 * k + 3 ≤ length entries.now }
+    ensures { result ≡ byte_value entries.now k }
 {
     entries[3 * k + 2]
 }
 
 // Whether a setting from the k-th on has the address.
 pub fn names_from(entries: &[u8], k: usize, address: u16) -> bool
-    requires { ⌜ 3 * k ≤ length (now entries) ⌝ }
-    ensures { λ r. ⌜ r ≡ among address (map address-of (drop k (triples (now (entries .entry))))) ⌝ }
+    requires { 3 * k ≤ length entries.now }
+    ensures { result ≡ among address (map address_of (drop k (triples entries.now))) }
 {
     let count = entries.len() / 3;
     let mut i = k;
@@ -48,7 +45,7 @@ pub fn names_from(entries: &[u8], k: usize, address: u16) -> bool
 
 // Whether an address comes twice.
 pub fn repeats(entries: &[u8]) -> bool
-    ensures { λ r. ⌜ r ≡ repeats (map address-of (triples (now (entries .entry)))) ⌝ }
+    ensures { result ≡ repeats (map address_of (triples entries.now)) }
 {
     let count = entries.len() / 3;
     let mut i = 0;
@@ -63,7 +60,7 @@ pub fn repeats(entries: &[u8]) -> bool
 
 // N5. Whether an address is none that can be written.
 pub fn a_wrong_address(entries: &[u8]) -> bool
-    ensures { λ r. ⌜ r ≡ a-wrong-address (triples (now (entries .entry))) ⌝ }
+    ensures { result ≡ a_wrong_address (triples entries.now) }
 {
     let count = entries.len() / 3;
     let mut i = 0;
@@ -78,7 +75,7 @@ pub fn a_wrong_address(entries: &[u8]) -> bool
 
 // N11. Whether an address is the other owner's.
 pub fn a_foreign(entries: &[u8], timer: bool) -> bool
-    ensures { λ r. ⌜ r ≡ a-foreign (named-owner timer) (triples (now (entries .entry))) ⌝ }
+    ensures { result ≡ a_foreign (named_owner timer) (triples entries.now) }
 {
     let count = entries.len() / 3;
     let mut i = 0;

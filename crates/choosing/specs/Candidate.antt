@@ -1,10 +1,7 @@
 -- The cleared page of least wear, by the spares of the pages: the wear + 1 of a cleared page, and 0 of any other.
-use Prim.Native.Nat.{ℕ, zero, suc}
-use mathlib.Core.Path.{_≡_}
-use mathlib.Core.List.{List, [], _∷_}
-use lib.ListN.{take}
-use Rattle·rules.specs.Store.{Candidate, nobody, page, better, index}
-use Rattle·choosing·specs.specs.declared.Candidate.{Candidate as Choice}
+use Rattle.std.specs.Prelude.{ℕ, zero, suc, ◌≡◌, List, [], ◌∷◌, take}
+use Rattle.rules.specs.Store.{Candidate, nobody, page, better, index}
+use Rattle.choosing.specs.declared.Candidate.{Candidate as Choice}
 
 -- the candidate that a page of that spare is: nobody, if it is 0
 unfoldable pub offer : (index spare : ℕ) → Candidate
@@ -12,12 +9,12 @@ offer k zero = nobody
 offer k (suc wear) = page k wear
 
 -- the candidate that the code's is
-abbrev pub as-candidate : Choice → Candidate
-as-candidate c = offer (c .index) (c .spare)
+abbrev pub as_candidate : Choice → Candidate
+as_candidate c = offer c.index c.spare
 
 -- one that is nobody has index 0
 unfoldable pub Plain : Choice → Type 0
-Plain c = c .index ≡ index (as-candidate c)
+Plain c = c.index ≡ index (as_candidate c)
 
 -- the best of the pages whose spares these are, the first of which has that index
 unfoldable pub least : (index : ℕ) → List ℕ → Candidate

@@ -1,36 +1,25 @@
 // What a write does, chosen by what one look told: the way of a write, or the first test that refuses it.
+ghost use Rattle.std.specs.Prelude.{◌≡◌, false, cond, ◌||◌, List, ℕ, ◌+◌, ◌≤◌, ◌<◌, length};
+ghost use Rattle.rules.specs.Page.{Page};
+ghost use Rattle.rules.specs.Store.{Setting, better, index, settings};
+ghost use Rattle.rules.specs.Owner.{named_owner, held_by};
+ghost use Rattle.rules.specs.Call.{a_wrong_address, wrong_group, new_in, no_room, crowded, triples, group_of};
+ghost use Rattle.pages.specs.Read.{as_form};
+ghost use Rattle.settings.specs.Held.{Holds, as_option};
+ghost use Rattle.store.specs.Opened.{Opens, Opened};
+ghost use Rattle.choosing.specs.Candidate.{offer, as_candidate, Plain, chosen};
+ghost use Rattle.choosing.specs.Known.{Has, Adds, Knows};
+ghost use Rattle.choosing.specs.Way.{new_page_of, change_of, Lent, Tested, Chosen};
+
 use owners::TIMER_FIRST;
-use pages::Form;
-use pages::ORDER_MAX;
-use pages::PAGES_MAX;
-use settings::HELD_MAX;
-use settings::Held;
+use pages::{Form, ORDER_MAX, PAGES_MAX};
+use settings::{HELD_MAX, Held};
 use store::Store;
-use survey::ADDRESS;
-use survey::GROUP;
-use survey::NO_ROOM;
-use survey::OK;
-use survey::ORDER_END;
-use survey::OWNER;
-use survey::UNCLEAN;
-ghost use mathlib.Core.Path.{_≡_};
-ghost use mathlib.Core.Bool.{false, cond, _||_};
-ghost use mathlib.Core.List.{List};
-ghost use Prim.Native.Nat.{ℕ, _+_, _≤_, _<_};
-ghost use lib.ListN.{length};
-ghost use Rattle·rules.specs.Page.{Page};
-ghost use Rattle·rules.specs.Store.{Setting, better, index, settings};
-ghost use Rattle·rules.specs.Owner.{named-owner, held-by};
-ghost use Rattle·rules.specs.Call.{a-wrong-address, wrong-group, new-in, no-room, crowded, triples, group-of};
-ghost use Rattle·pages.specs.Read.{as-form};
-ghost use Rattle·settings.specs.Held.{Holds, as-option};
-ghost use Rattle·store.specs.Opened.{Opens, Opened};
-ghost use Rattle·choosing·specs.specs.Candidate.{offer, as-candidate, Plain, chosen};
-ghost use Rattle·choosing·specs.specs.Known.{Has, Adds, Knows};
-ghost use Rattle·choosing·specs.specs.Way.{new-page-of, change-of, Lent, Tested, Chosen};
+use survey::{ADDRESS, GROUP, NO_ROOM, OK, ORDER_END, OWNER, UNCLEAN};
 
 // Refuse by a number; stay, the values being held already; program the change at a page and from its slot there on; open a page
 // with an order; move to a page with an order.
+#[derive(Drop)]
 pub enum Way {
     Refuse(u8),
     Stay,
@@ -40,6 +29,7 @@ pub enum Way {
 }
 
 // A cleared page that may be taken; `spare` 0 says that there is none yet.
+#[derive(Drop)]
 pub struct Candidate {
     pub index: usize,
     pub spare: u32,
@@ -48,8 +38,8 @@ pub struct Candidate {
 impl Candidate {
     // The better of the candidate and the page at the index, offered by rising index: of least wear, and of equals the first.
     fn or(self, index: usize, spare: u32) -> Candidate
-        ensures { λ r. ⌜ as-candidate r ≡ better (as-candidate self) (offer index spare) ⌝ }
-        ensures { λ r. ⌜ (Plain self → Plain r) ⌝ }
+        ensures result_value { as_candidate result ≡ better (as_candidate self) (offer index spare) }
+        ensures plain { Plain self → Plain result }
     {
         let best = self.spare;
         if spare == 0 {
@@ -67,8 +57,8 @@ impl Candidate {
 
 // S10. The page that is taken: of the cleared ones that of least wear, and of equals the first.
 fn least_worn(spares: &[u32; PAGES_MAX]) -> Candidate
-    ensures { λ r. ⌜ as-candidate r ≡ chosen (now (spares .entry)) ⌝ }
-    ensures { λ r. ⌜ r .index ≡ index (chosen (now (spares .entry))) ⌝ }
+    ensures result_value { as_candidate result ≡ chosen spares.now }
+    ensures index_value { result.index ≡ index (chosen spares.now) }
 {
     let mut best = Candidate { index: 0, spare: 0 };
     let mut i = 0;
@@ -81,8 +71,8 @@ fn least_worn(spares: &[u32; PAGES_MAX]) -> Candidate
 
 // A new page, since the active one, of that order, has no free slot: the last cleared page is moved to, any other is opened.
 fn new_page(spares: &[u32; PAGES_MAX], cleared: usize, order: u32) -> Way
-    requires { ⌜ order < 4194304 ⌝ }
-    ensures { λ r. ⌜ r ≡ new-page-of (now (spares .entry)) cleared order ⌝ }
+    requires { order < 4194304 }
+    ensures { result ≡ new_page_of spares.now cleared order }
 {
     if order == ORDER_MAX {
         return Way::Refuse(ORDER_END);
@@ -95,6 +85,7 @@ fn new_page(spares: &[u32; PAGES_MAX], cleared: usize, order: u32) -> Way
 }
 
 // What a table tells of a change: how many of its addresses are new, and whether all have their values.
+#[derive(Drop)]
 pub struct Known {
     pub new: usize,
     pub same: bool,
@@ -103,8 +94,8 @@ pub struct Known {
 impl Known {
     // With one setting more, whose address is new.
     fn with_new(self) -> Known
-        requires { ⌜ self .new ≤ 65535 ⌝ }
-        ensures { λ r. ⌜ (r .new ≡ self .new + 1) × (r .same ≡ false) ⌝ }
+        requires { self.new ≤ 65535 }
+        ensures { (result.new ≡ self.new + 1) × (result.same ≡ false) }
     {
         Known {
             new: self.new + 1,
@@ -114,8 +105,8 @@ impl Known {
 
     // With one setting more, of whose address that was found.
     fn with(self, found: Held, value: u8) -> Known
-        requires { ⌜ self .new ≤ 65535 ⌝ }
-        ensures { λ r. ⌜ Adds (as-option found) value self r ⌝ }
+        requires { self.new ≤ 65535 }
+        ensures { Adds (as_option found) value self result }
     {
         match found {
             Held::Value(held) => {
@@ -138,10 +129,10 @@ pub fn told_of<'a>(
     values: &'a [u8; HELD_MAX],
     entries: &[u8],
 ) -> Known
-    requires { ⌜ length (now entries) ≤ 65535 ⌝ }
-    ensures { λ r. ⌜ ((ps : List Page) (held : ℕ) → length (settings ps) ≤ 192 → Holds (now (addresses .entry)) (now (values .entry)) held (settings ps)
-        → a-wrong-address (triples (now (entries .entry))) ≡ false → Knows ps (triples (now (entries .entry))) r) ⌝ }
-    ensures { λ r. ⌜ r .new ≤ length (triples (now (entries .entry))) ⌝ }
+    requires { length entries.now ≤ 65535 }
+    ensures knows { (ps : List Page) (held : ℕ) → length (settings ps) ≤ 192 → Holds addresses.now values.now held (settings ps)
+        → a_wrong_address (triples entries.now) ≡ false → Knows ps (triples entries.now) result }
+    ensures result_in_bounds { result.new ≤ length (triples entries.now) }
 {
     let count = entries.len() / 3;
     let mut known = Known { new: 0, same: true };
@@ -156,7 +147,7 @@ pub fn told_of<'a>(
 
 // N9. GROUP: of a group, the edition has none, or it is not of 1 to 8 settings, or an address repeats.
 fn is_wrong_group(edition: u8, entries: &[u8]) -> bool
-    ensures { λ r. ⌜ r ≡ wrong-group edition (group-of (now (entries .entry))) ⌝ }
+    ensures { result ≡ wrong_group edition (group_of entries.now) }
 {
     if edition < 2 {
         return true;
@@ -175,7 +166,7 @@ fn is_wrong_group(edition: u8, entries: &[u8]) -> bool
 
 // A change is a single setting, or a group of settings, which takes marks.
 fn is_wrong(edition: u8, entries: &[u8], marks: bool) -> bool
-    ensures { λ r. ⌜ r ≡ wrong-group edition (change-of marks (now (entries .entry))) ⌝ }
+    ensures { result ≡ wrong_group edition (change_of marks entries.now) }
 {
     if marks {
         return is_wrong_group(edition, entries);
@@ -185,7 +176,7 @@ fn is_wrong(edition: u8, entries: &[u8], marks: bool) -> bool
 
 // C21. How many slots a change takes.
 pub fn slots_of(entries: &[u8], marks: bool) -> usize
-    ensures { λ r. ⌜ r ≡ cond marks (length (triples (now (entries .entry))) + 2) (length (triples (now (entries .entry)))) ⌝ }
+    ensures { result ≡ cond marks (length (triples entries.now) + 2) (length (triples entries.now)) }
 {
     let n = entries.len() / 3;
     if marks {
@@ -196,9 +187,9 @@ pub fn slots_of(entries: &[u8], marks: bool) -> usize
 
 // The tests that come before the table is asked: the number of the first that refuses the owner's change, or 0.
 fn first_tests(store: Store, form: Form, timer: bool, entries: &[u8], marks: bool) -> u8
-    requires { ⌜ (store .number ≡ 0 → store .look .used + store .look .cleared ≤ 32) × Lent marks (now entries) ⌝ }
-    ensures { λ r. ⌜ ((i xs ys : List ℕ) → Opens (as-form form) i store xs ys
-        → Tested (as-form form) (named-owner timer) (change-of marks (now (entries .entry))) (triples (now (entries .entry))) i r) ⌝ }
+    requires { (store.number ≡ 0 → store.look.used + store.look.cleared ≤ 32) × Lent marks entries.now }
+    ensures { (i xs ys : List ℕ) → Opens (as_form form) i store xs ys
+        → Tested (as_form form) (named_owner timer) (change_of marks entries.now) (triples entries.now) i result }
 {
     let number = store.number;
     if number != OK {
@@ -224,9 +215,9 @@ fn first_tests(store: Store, form: Form, timer: bool, entries: &[u8], marks: boo
 
 // How many of the addresses held are the owner's: in the table the handset's come first.
 fn held_by<'a>(addresses: &'a [u16; HELD_MAX], held: usize, timer: bool) -> usize
-    requires { ⌜ ((ps : List Page) × Has (now addresses) held ps) ⌝ }
-    ensures { λ r. ⌜ ((ps : List Page) → Has (now (addresses .entry)) held ps → r ≡ held-by (named-owner timer) ps) ⌝ }
-    ensures { λ r. ⌜ r ≤ 192 ⌝ }
+    requires { (ps : List Page) × Has addresses.now held ps }
+    ensures value { (ps : List Page) → Has addresses.now held ps → result ≡ held_by (named_owner timer) ps }
+    ensures upper_bound { result ≤ 192 }
 {
     let handsets = settings::place(addresses, TIMER_FIRST);
     if timer {
@@ -237,10 +228,10 @@ fn held_by<'a>(addresses: &'a [u16; HELD_MAX], held: usize, timer: bool) -> usiz
 
 // N6. NO ROOM: with the new addresses, if there are such, more than 192 would be held, or more by the owner than it may.
 fn is_full<'a>(addresses: &'a [u16; HELD_MAX], held: usize, timer: bool, new: usize) -> bool
-    requires { ⌜ ((ps : List Page) × Has (now addresses) held ps) ⌝ }
-    requires { ⌜ new ≤ 65535 ⌝ }
-    ensures { λ r. ⌜ ((ps : List Page) (rs : List Setting) → Has (now (addresses .entry)) held ps → new ≡ new-in rs ps
-        → r ≡ (no-room rs ps || crowded (named-owner timer) rs ps)) ⌝ }
+    requires has { (ps : List Page) × Has addresses.now held ps }
+    requires bound { new ≤ 65535 }
+    ensures { (ps : List Page) (rs : List Setting) → Has addresses.now held ps → new ≡ new_in rs ps
+        → result ≡ (no_room rs ps || crowded (named_owner timer) rs ps) }
 {
     if new == 0 {
         return false;
@@ -262,10 +253,10 @@ pub fn choose<'a>(
     entries: &[u8],
     marks: bool,
 ) -> Way
-    requires { ⌜ Opened (as-form form) store (now addresses) (now values) ⌝ }
-    requires { ⌜ Lent marks (now entries) ⌝ }
-    ensures { λ r. ⌜ ((i : List ℕ) → Opens (as-form form) i store (now (addresses .entry)) (now (values .entry))
-        → Chosen (as-form form) (named-owner timer) (change-of marks (now (entries .entry))) i r) ⌝ }
+    requires opened { Opened (as_form form) store addresses.now values.now }
+    requires lent { Lent marks entries.now }
+    ensures { (i : List ℕ) → Opens (as_form form) i store addresses.now values.now
+        → Chosen (as_form form) (named_owner timer) (change_of marks entries.now) i result }
 {
     let number = first_tests(store, form, timer, entries, marks);
     if number != OK {

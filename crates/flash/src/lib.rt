@@ -1,15 +1,12 @@
 // The two steps, program and erase (F3): no other function changes an image. Each works on the part that is
 // lent to it at its offset.
-ghost use mathlib.Core.Path.{_≡_};
-ghost use mathlib.Core.List.{[], _∷_};
-ghost use Prim.Native.Nat.{_+_, _≤_};
-ghost use lib.ListN.{length, take, drop, replicate};
-ghost use lib.Seq.{sets};
+ghost use Rattle.std.specs.Prelude.{◌≡◌, [], ◌∷◌, ◌+◌, ◌≤◌, length, take, drop, replicate};
+ghost use Rattle.std.proofs.lemmas.List.Edits.{sets};
 
 // Programs the half-word that the part begins with; only one that reads 65,535 may be programmed.
 pub fn program(half: &mut [u8], low: u8, high: u8)
-    requires { ⌜ take 2 (now half) ≡ 255 ∷ 255 ∷ [] ⌝ }
-    ensures { λ _. ⌜ now (half .exit) ≡ sets (now (half .entry)) 0 (low ∷ high ∷ []) ⌝ }
+    requires { take 2 half.old ≡ 255 ∷ 255 ∷ [] }
+    ensures { half.new ≡ sets half.old 0 (low ∷ high ∷ []) }
 {
     half[0] = low;
     half[1] = high;
@@ -17,7 +14,7 @@ pub fn program(half: &mut [u8], low: u8, high: u8)
 
 // Erases the page that the part is.
 pub fn erase(page: &mut [u8])
-    ensures { λ _. ⌜ now (page .exit) ≡ replicate (length (now (page .entry))) 255 ⌝ }
+    ensures { page.new ≡ replicate (length page.old) 255 }
 {
     let mut i = 0;
     while i < page.len() {
@@ -28,16 +25,16 @@ pub fn erase(page: &mut [u8])
 
 // Programs the half-word at an offset of the image.
 pub fn program_at(image: &mut [u8], at: usize, low: u8, high: u8)
-    requires { ⌜ take 2 (drop at (now image)) ≡ 255 ∷ 255 ∷ [] ⌝ }
-    ensures { λ _. ⌜ now (image .exit) ≡ sets (now (image .entry)) at (low ∷ high ∷ []) ⌝ }
+    requires { take 2 (drop at image.old) ≡ 255 ∷ 255 ∷ [] }
+    ensures { image.new ≡ sets image.old at (low ∷ high ∷ []) }
 {
     program(&mut image[at..], low, high);
 }
 
 // Erases the page of a size at an offset of the image.
 pub fn erase_at(image: &mut [u8], at: usize, size: usize)
-    requires { ⌜ at + size ≤ length (now image) ⌝ }
-    ensures { λ _. ⌜ now (image .exit) ≡ sets (now (image .entry)) at (replicate size 255) ⌝ }
+    requires { at + size ≤ length image.old }
+    ensures { image.new ≡ sets image.old at (replicate size 255) }
 {
     erase(&mut image[at..at + size]);
 }

@@ -1,16 +1,15 @@
 // The library for C and Rust: the seven calls under their exported names. Each takes any image, any page size, either owner and any numbers, and
 // its contract fixes every answer and every byte of the image after it; include/istrovell.h tells a firmware engineer the same.
-use pages::Named;
-use reading::Pairing;
-use reading::Reading;
-use survey::SIZE;
-use survey::Sized;
-use writing::Stepped;
-ghost use Rattle·istrovell·specs.specs.Demands.{Formats, Recovers, Writes, WritesGroup, Reads, BlankReads, LooksUp};
+ghost use Rattle.istrovell.specs.Demands.{Formats, Recovers, Writes, WritesGroup, Reads, BlankReads, LooksUp};
 
-#[no_mangle]
+use pages::Named;
+use reading::{Pairing, Reading};
+use survey::{SIZE, Sized};
+use writing::Stepped;
+
+#[unsafe(no_mangle)]
 pub extern "C" fn istrovell_format(image: &mut [u8], page_size: u16, second: bool) -> u8
-    ensures { λ r. ⌜ Formats «page_size» second (now (image .entry)) r (now (image .exit)) ⌝ }
+    ensures { Formats page_size second image.old result image.new }
 {
     match pages::chip_of(page_size) {
         Named::Chip(chip) => writing::format(image, chip.form(chip.told(second))),
@@ -18,9 +17,9 @@ pub extern "C" fn istrovell_format(image: &mut [u8], page_size: u16, second: boo
     }
 }
 
-#[no_mangle]
+#[unsafe(no_mangle)]
 pub extern "C" fn istrovell_recover(image: &mut [u8], page_size: u16, allowance: u16) -> Stepped
-    ensures { λ r. ⌜ Recovers «page_size» allowance (now (image .entry)) r (now (image .exit)) ⌝ }
+    ensures { Recovers page_size allowance image.old result image.new }
 {
     match survey::form_at(image, page_size) {
         Sized::Right(form) => writing::recover(image, form, allowance),
@@ -28,7 +27,7 @@ pub extern "C" fn istrovell_recover(image: &mut [u8], page_size: u16, allowance:
     }
 }
 
-#[no_mangle]
+#[unsafe(no_mangle)]
 pub extern "C" fn istrovell_write(
     image: &mut [u8],
     page_size: u16,
@@ -37,7 +36,7 @@ pub extern "C" fn istrovell_write(
     value: u8,
     allowance: u16,
 ) -> Stepped
-    ensures { λ r. ⌜ Writes «page_size» timer address value allowance (now (image .entry)) r (now (image .exit)) ⌝ }
+    ensures { Writes page_size timer address value allowance image.old result image.new }
 {
     match survey::form_at(image, page_size) {
         Sized::Right(form) => writing::write(image, form, timer, address, value, allowance),
@@ -45,7 +44,7 @@ pub extern "C" fn istrovell_write(
     }
 }
 
-#[no_mangle]
+#[unsafe(no_mangle)]
 pub extern "C" fn istrovell_write_group(
     image: &mut [u8],
     page_size: u16,
@@ -53,7 +52,7 @@ pub extern "C" fn istrovell_write_group(
     group: &[u8],
     allowance: u16,
 ) -> Stepped
-    ensures { λ r. ⌜ WritesGroup «page_size» timer (now (group .entry)) allowance (now (image .entry)) r (now (image .exit)) ⌝ }
+    ensures { WritesGroup page_size timer group.now allowance image.old result image.new }
 {
     match survey::form_at(image, page_size) {
         Sized::Right(form) => writing::write_group(image, form, timer, group, allowance),
@@ -61,9 +60,9 @@ pub extern "C" fn istrovell_write_group(
     }
 }
 
-#[no_mangle]
+#[unsafe(no_mangle)]
 pub extern "C" fn istrovell_read(image: &[u8], page_size: u16, timer: bool, address: u16) -> Reading
-    ensures { λ r. ⌜ Reads «page_size» timer address (now (image .entry)) r ⌝ }
+    ensures { Reads page_size timer address image.now result }
 {
     match survey::form_at(image, page_size) {
         Sized::Right(form) => reading::read(image, form, timer, address),
@@ -71,14 +70,14 @@ pub extern "C" fn istrovell_read(image: &[u8], page_size: u16, timer: bool, addr
     }
 }
 
-#[no_mangle]
+#[unsafe(no_mangle)]
 pub extern "C" fn istrovell_blank_read(
     image: &[u8],
     page_size: u16,
     timer: bool,
     address: u16,
 ) -> Reading
-    ensures { λ r. ⌜ BlankReads «page_size» timer address (now (image .entry)) r ⌝ }
+    ensures { BlankReads page_size timer address image.now result }
 {
     match survey::form_at(image, page_size) {
         Sized::Right(form) => reading::blank_read(image, form, timer, address),
@@ -86,9 +85,9 @@ pub extern "C" fn istrovell_blank_read(
     }
 }
 
-#[no_mangle]
+#[unsafe(no_mangle)]
 pub extern "C" fn istrovell_lookup(image: &[u8], page_size: u16) -> Pairing
-    ensures { λ r. ⌜ LooksUp «page_size» (now (image .entry)) r ⌝ }
+    ensures { LooksUp page_size image.now result }
 {
     match survey::form_at(image, page_size) {
         Sized::Right(form) => reading::lookup(image, form),

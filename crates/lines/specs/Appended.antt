@@ -1,11 +1,8 @@
 -- What a function that writes text leaves in the buffer that it is lent, and the listing's lines in the terms of the code.
-use Prim.Native.Nat.{ℕ, _+_, _≤_}
-use mathlib.Core.Path.{_≡_}
-use mathlib.Core.List.{List, _++_}
-use lib.ListN.{length, take, drop}
-use lib.Seq.{sets}
-use Rattle·rules.specs.Listing.{decimal, text-pages, text-used, text-cleared, text-order, text-held, text-half, text-spoiled}
-use Rattle·rules.specs.Listing.{line-end}
+use Rattle.std.specs.Prelude.{ℕ, ◌+◌, ◌≤◌, ◌≡◌, List, ◌++◌, length, take, drop}
+use Rattle.std.proofs.lemmas.List.Edits.{sets}
+use Rattle.rules.specs.Listing.{decimal, text_pages, text_used, text_cleared, text_order, text_held, text_half, text_spoiled}
+use Rattle.rules.specs.Listing.{line_end}
 
 -- The text stands in the buffer from a place on, and all else is as it was; r is the place behind it.
 pub record Appends (before : List ℕ) (at : ℕ) (text after : List ℕ) (r : ℕ) : Type 0 where
@@ -20,14 +17,14 @@ pub record Written (before text after : List ℕ) (r : ℕ) : Type 0 where
   pub behind : drop r after ≡ drop r before
 
 -- the first line, of its seven numbers, in three parts
-unfoldable pub pages-part : (count used cleared : ℕ) → List ℕ
-pages-part count used cleared = text-pages ++ decimal count ++ text-used ++ decimal used ++ text-cleared ++ decimal cleared
+unfoldable pub pages_part : (count used cleared : ℕ) → List ℕ
+pages_part count used cleared = text_pages ++ decimal count ++ text_used ++ decimal used ++ text_cleared ++ decimal cleared
 
-unfoldable pub order-part : (order held : ℕ) → List ℕ
-order-part order held = text-order ++ decimal order ++ text-held ++ decimal held
+unfoldable pub order_part : (order held : ℕ) → List ℕ
+order_part order held = text_order ++ decimal order ++ text_held ++ decimal held
 
-unfoldable pub broken-part : (half spoiled : ℕ) → List ℕ
-broken-part half spoiled = text-half ++ decimal half ++ text-spoiled ++ decimal spoiled ++ line-end
+unfoldable pub broken_part : (half spoiled : ℕ) → List ℕ
+broken_part half spoiled = text_half ++ decimal half ++ text_spoiled ++ decimal spoiled ++ line_end
 
-unfoldable pub told-line : (count used cleared order held half spoiled : ℕ) → List ℕ
-told-line count used cleared order held half spoiled = pages-part count used cleared ++ order-part order held ++ broken-part half spoiled
+unfoldable pub told_line : (count used cleared order held half spoiled : ℕ) → List ℕ
+told_line count used cleared order held half spoiled = pages_part count used cleared ++ order_part order held ++ broken_part half spoiled

@@ -1,31 +1,28 @@
 // The listing of a store: its text, written into a buffer that is lent. Each function appends at a place and gives the place
 // behind what it wrote.
+ghost use Rattle.std.specs.Prelude.{List, [], ◌∷◌, ◌++◌, ◌+◌, ◌*◌, ◌≤◌, ◌<◌, length};
+ghost use Rattle.rules.specs.Store.{Setting, setting};
+ghost use Rattle.rules.specs.Listing.{decimal, text_refused, line_end, setting_line, setting_lines, listing};
+ghost use Rattle.pages.specs.Read.{as_form, Lawful};
+ghost use Rattle.settings.specs.Held.{Holds};
+ghost use Rattle.lines.specs.Appended.{Appends, Written, pages_part, order_part, broken_part, told_line};
+
 use broken::Broken;
 use pages::Form;
-use settings::HELD_MAX;
-use settings::NO_ADDRESS;
-use settings::NO_VALUE;
+use settings::{HELD_MAX, NO_ADDRESS, NO_VALUE};
 use survey::OK;
-ghost use mathlib.Core.List.{List, [], _∷_, _++_};
-ghost use Prim.Native.Nat.{_+_, _*_, _≤_, _<_};
-ghost use lib.ListN.{length};
-ghost use Rattle·rules.specs.Store.{Setting, setting};
-ghost use Rattle·rules.specs.Listing.{decimal, text-refused, line-end, setting-line, setting-lines, listing};
-ghost use Rattle·pages.specs.Read.{as-form, Lawful};
-ghost use Rattle·settings.specs.Held.{Holds};
-ghost use Rattle·lines·specs.specs.Appended.{Appends, Written, pages-part, order-part, broken-part, told-line};
 
 fn put_byte(out: &mut [u8], at: usize, byte: u8) -> usize
-    requires { ⌜ at < length (now out) ⌝ }
-    ensures { λ r. ⌜ Appends (now (out .entry)) at (byte ∷ []) (now (out .exit)) r ⌝ }
+    requires { at < length out.old }
+    ensures { Appends out.old at (byte ∷ []) out.new result }
 {
     out[at] = byte;
     at + 1
 }
 
 fn put_text(out: &mut [u8], at: usize, text: &[u8]) -> usize
-    requires { ⌜ at + length (now text) ≤ length (now out) ⌝ }
-    ensures { λ r. ⌜ Appends (now (out .entry)) at (now (text .entry)) (now (out .exit)) r ⌝ }
+    requires { at + length text.now ≤ length out.old }
+    ensures { Appends out.old at text.now out.new result }
 {
     let mut i = 0;
     while i < text.len() {
@@ -37,8 +34,8 @@ fn put_text(out: &mut [u8], at: usize, text: &[u8]) -> usize
 
 // A number in decimal digits: those of its tenth, then its last one.
 fn put_number(out: &mut [u8], at: usize, n: u32) -> usize
-    requires { ⌜ (n < 100000000) × (at + 8 ≤ length (now out)) ⌝ }
-    ensures { λ r. ⌜ Appends (now (out .entry)) at (decimal n) (now (out .exit)) r ⌝ }
+    requires { (n < 100000000) × (at + 8 ≤ length out.old) }
+    ensures { Appends out.old at (decimal n) out.new result }
 {
     if n < 10 {
         return put_byte(out, at, 48 + n as u8);
@@ -49,8 +46,8 @@ fn put_number(out: &mut [u8], at: usize, n: u32) -> usize
 
 // A text and a number behind it.
 fn put_field(out: &mut [u8], at: usize, text: &[u8], n: u32) -> usize
-    requires { ⌜ (n < 100000000) × (at + length (now text) + 8 ≤ length (now out)) ⌝ }
-    ensures { λ r. ⌜ Appends (now (out .entry)) at (now (text .entry) ++ decimal n) (now (out .exit)) r ⌝ }
+    requires { (n < 100000000) × (at + length text.now + 8 ≤ length out.old) }
+    ensures { Appends out.old at (text.now ++ decimal n) out.new result }
 {
     let next = put_text(out, at, text);
     put_number(out, next, n)
@@ -58,8 +55,8 @@ fn put_field(out: &mut [u8], at: usize, text: &[u8], n: u32) -> usize
 
 // The line of one setting.
 fn put_setting(out: &mut [u8], at: usize, address: u16, value: u8) -> usize
-    requires { ⌜ at + 18 ≤ length (now out) ⌝ }
-    ensures { λ r. ⌜ Appends (now (out .entry)) at (setting-line (setting address value)) (now (out .exit)) r ⌝ }
+    requires { at + 18 ≤ length out.old }
+    ensures { Appends out.old at (setting_line (setting address value)) out.new result }
 {
     let behind_address = put_number(out, at, address as u32);
     let behind_value = put_field(out, behind_address, b" ", value as u32);
@@ -74,9 +71,9 @@ fn put_settings<'a>(
     values: &'a [u8; HELD_MAX],
     held: usize,
 ) -> usize
-    requires { ⌜ (held ≤ 192) × (at + held * 18 ≤ length (now out)) ⌝ }
-    ensures { λ r. ⌜ ((t : List Setting) → Holds (now (addresses .entry)) (now (values .entry)) held t
-        → Appends (now (out .entry)) at (setting-lines t) (now (out .exit)) r) ⌝ }
+    requires { (held ≤ 192) × (at + held * 18 ≤ length out.old) }
+    ensures { (t : List Setting) → Holds addresses.now values.now held t
+        → Appends out.old at (setting_lines t) out.new result }
 {
     let mut end = at;
     let mut i = 0;
@@ -89,9 +86,9 @@ fn put_settings<'a>(
 
 // The first three numbers of line one.
 fn put_pages(out: &mut [u8], at: usize, count: u32, used: u32, cleared: u32) -> usize
-    requires { ⌜ (count < 100000000) × (used < 100000000) × (cleared < 100000000) ⌝ }
-    requires { ⌜ at + 45 ≤ length (now out) ⌝ }
-    ensures { λ r. ⌜ Appends (now (out .entry)) at (pages-part count used cleared) (now (out .exit)) r ⌝ }
+    requires count_bound { (count < 100000000) × (used < 100000000) × (cleared < 100000000) }
+    requires at_in_bounds { at + 45 ≤ length out.old }
+    ensures { Appends out.old at (pages_part count used cleared) out.new result }
 {
     let behind_count = put_field(out, at, b"pages ", count);
     let behind_used = put_field(out, behind_count, b" used ", used);
@@ -100,8 +97,8 @@ fn put_pages(out: &mut [u8], at: usize, count: u32, used: u32, cleared: u32) -> 
 
 // The next two.
 fn put_order(out: &mut [u8], at: usize, order: u32, held: u32) -> usize
-    requires { ⌜ (order < 100000000) × (held < 100000000) × (at + 29 ≤ length (now out)) ⌝ }
-    ensures { λ r. ⌜ Appends (now (out .entry)) at (order-part order held) (now (out .exit)) r ⌝ }
+    requires { (order < 100000000) × (held < 100000000) × (at + 29 ≤ length out.old) }
+    ensures { Appends out.old at (order_part order held) out.new result }
 {
     let behind_order = put_field(out, at, b" order ", order);
     put_field(out, behind_order, b" held ", held)
@@ -109,8 +106,8 @@ fn put_order(out: &mut [u8], at: usize, order: u32, held: u32) -> usize
 
 // The last two, and the line's end.
 fn put_broken(out: &mut [u8], at: usize, half: u32, spoiled: u32) -> usize
-    requires { ⌜ (half < 100000000) × (spoiled < 100000000) × (at + 32 ≤ length (now out)) ⌝ }
-    ensures { λ r. ⌜ Appends (now (out .entry)) at (broken-part half spoiled) (now (out .exit)) r ⌝ }
+    requires { (half < 100000000) × (spoiled < 100000000) × (at + 32 ≤ length out.old) }
+    ensures { Appends out.old at (broken_part half spoiled) out.new result }
 {
     let behind_half = put_field(out, at, b" half ", half);
     let behind_spoiled = put_field(out, behind_half, b" spoiled ", spoiled);
@@ -127,9 +124,9 @@ fn put_first(
     held: usize,
     broken: Broken,
 ) -> usize
-    requires { ⌜ (count ≤ 32) × (used ≤ 32) × (cleared ≤ 32) × (order < 4194304) × (held ≤ 192) × (broken .half + broken .spoiled ≤ 16288) ⌝ }
-    requires { ⌜ 106 ≤ length (now out) ⌝ }
-    ensures { λ r. ⌜ Appends (now (out .entry)) 0 (told-line count used cleared order held (broken .half) (broken .spoiled)) (now (out .exit)) r ⌝ }
+    requires count_bound { (count ≤ 32) × (used ≤ 32) × (cleared ≤ 32) × (order < 4194304) × (held ≤ 192) × (broken.half + broken.spoiled ≤ 16288) }
+    requires in_bounds { 106 ≤ length out.old }
+    ensures { Appends out.old 0 (told_line count used cleared order held broken.half broken.spoiled) out.new result }
 {
     let behind_pages = put_pages(out, 0, count as u32, used as u32, cleared as u32);
     let behind_held = put_order(out, behind_pages, order, held as u32);
@@ -138,8 +135,8 @@ fn put_first(
 
 // The line of a refusal.
 fn put_refused(out: &mut [u8], number: u8) -> usize
-    requires { ⌜ 17 ≤ length (now out) ⌝ }
-    ensures { λ r. ⌜ Appends (now (out .entry)) 0 (text-refused ++ decimal number ++ line-end) (now (out .exit)) r ⌝ }
+    requires { 17 ≤ length out.old }
+    ensures { Appends out.old 0 (text_refused ++ decimal number ++ line_end) out.new result }
 {
     let at = put_field(out, 0, b"refused ", number as u32);
     put_byte(out, at, 10)
@@ -148,8 +145,8 @@ fn put_refused(out: &mut [u8], number: u8) -> usize
 // The listing of an image of any length and content: its length, and its bytes at the start of the buffer. What lies behind
 // them stays.
 pub fn list(image: &[u8], form: Form, out: &mut [u8]) -> usize
-    requires { ⌜ Lawful form × (4096 ≤ length (now out)) ⌝ }
-    ensures { λ r. ⌜ Written (now (out .entry)) (listing (as-form form) (now (image .entry))) (now (out .exit)) r ⌝ }
+    requires { Lawful form × (4096 ≤ length out.old) }
+    ensures { Written out.old (listing (as_form form) image.now) out.new result }
 {
     let mut addresses = [NO_ADDRESS; HELD_MAX];
     let mut values = [NO_VALUE; HELD_MAX];

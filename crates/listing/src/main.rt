@@ -1,18 +1,17 @@
 // Prints the listing of the image that standard input holds (L1).
-use libc::STDIN_FILENO;
-use libc::STDOUT_FILENO;
+ghost use Rattle.std.specs.Prelude.{◌≤◌, length};
+ghost use Rattle.rules.specs.Call.{form_of};
+ghost use Rattle.rules.specs.Listing.{listing};
+ghost use Rattle.rules.specs.Named.{smaller_chip};
+ghost use Rattle.lines.specs.Appended.{Written};
+
+use libc::{STDIN_FILENO, STDOUT_FILENO};
 use pages::SMALLER;
-ghost use Prim.Native.Nat.{_≤_};
-ghost use lib.ListN.{length};
-ghost use Rattle·rules.specs.Call.{form-of};
-ghost use Rattle·rules.specs.Listing.{listing};
-ghost use Rattle·rules.specs.Named.{smaller-chip};
-ghost use Rattle·lines.specs.Appended.{Written};
 
 // The listing of an image with pages of 1,024 bytes, read by its own edition (P10).
 fn list(image: &[u8], out: &mut [u8]) -> usize
-    requires { ⌜ 4096 ≤ length (now out) ⌝ }
-    ensures { λ r. ⌜ Written (now (out .entry)) (listing (form-of smaller-chip (now (image .entry))) (now (image .entry))) (now (out .exit)) r ⌝ }
+    requires { 4096 ≤ length out.old }
+    ensures { Written out.old (listing (form_of smaller_chip image.now) image.now) out.new result }
 {
     let form = survey::form_of(image, SMALLER);
     lines::list(image, form, out)

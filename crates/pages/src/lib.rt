@@ -1,17 +1,15 @@
 // The state of one page (P4 to P8). A page is lent as the part of the image that it is.
+ghost use Rattle.std.specs.Prelude.{◌≡◌, ◌*◌, ◌/◌, ◌≤◌, ◌<◌, length, cond};
+ghost use Rattle.rules.specs.Word.{words};
+ghost use Rattle.rules.specs.Page.{size, in_edition, wear_part, is_wear, wear_in, is_opening, order_in, is_done, all_blank, state_after_wear, state};
+ghost use Rattle.rules.specs.Store.{is_open, order, or_value, free_slot};
+ghost use Rattle.rules.specs.Call.{opens_itself, own_edition};
+ghost use Rattle.rules.specs.Named.{chip_of};
+ghost use Rattle.rules.specs.Steps.{one_more};
+ghost use Rattle.words.specs.Read.{as_word};
+ghost use Rattle.pages.specs.Read.{as_state, as_form, Lawful, as_chip, LawfulChip, as_named, LawfulNamed};
+
 use words::Word;
-ghost use mathlib.Core.Path.{_≡_};
-ghost use Prim.Native.Nat.{_*_, _/_, _≤_, _<_};
-ghost use lib.ListN.{length};
-ghost use Rattle·rules.specs.Word.{words};
-ghost use Rattle·rules.specs.Page.{size, in-edition, wear-part, is-wear, wear-in, is-opening, order-in, is-done, all-blank, state-after-wear, state};
-ghost use Rattle·rules.specs.Store.{is-open, order, or-value, free-slot};
-ghost use Rattle·rules.specs.Call.{opens-itself, own-edition};
-ghost use Rattle·rules.specs.Named.{chip-of};
-ghost use Rattle·rules.specs.Steps.{one-more};
-ghost use Rattle·words.specs.Read.{as-word};
-ghost use Rattle·pages·specs.specs.Read.{as-state, as-form, Lawful, as-chip, LawfulChip, as-named, LawfulNamed};
-ghost use mathlib.Core.Bool.{cond};
 
 // Pages are 2 to 32, orders 0 to 4,194,303.
 pub const PAGES_MIN: usize = 2;
@@ -24,12 +22,14 @@ pub const ORDER_MAX: u32 = 4194303;
 pub const HEADER_SIZE: usize = 12;
 
 // The form of a store's pages: how many slots a page has behind its three header words, and the third byte of its wear word.
+#[derive(Drop)]
 pub struct Form {
     pub slots: usize,
     pub edition: u8,
 }
 
 // P1. A chip: how many slots its pages have, and the first and the last edition that they may be of.
+#[derive(Drop)]
 pub struct Chip {
     pub slots: usize,
     pub first: u8,
@@ -50,14 +50,15 @@ pub const LARGER: Chip = Chip {
 };
 
 // The chip that a page size names, if there is one.
+#[derive(Drop)]
 pub enum Named {
     Chip(Chip),
     Nothing,
 }
 
 pub fn chip_of(page_size: u16) -> Named
-    ensures { λ r. ⌜ as-named r ≡ chip-of «page_size» ⌝ }
-    ensures { λ r. ⌜ LawfulNamed r ⌝ }
+    ensures result_value { as_named result ≡ chip_of page_size }
+    ensures lawful_named { LawfulNamed result }
 {
     if page_size == 1024 {
         return Named::Chip(SMALLER);
@@ -71,7 +72,7 @@ pub fn chip_of(page_size: u16) -> Named
 impl Chip {
     // P9. The edition that format is told: the last, which of the smaller chip is the second, or the first.
     pub fn told(self, second: bool) -> u8
-        ensures { λ r. ⌜ r ≡ cond second (self .last) (self .first) ⌝ }
+        ensures { result ≡ cond second self.last self.first }
     {
         if second {
             return self.last;
@@ -80,8 +81,8 @@ impl Chip {
     }
 
     pub fn form(self, edition: u8) -> Form
-        ensures { λ r. ⌜ as-form r ≡ in-edition (as-chip self) edition ⌝ }
-        ensures { λ r. ⌜ (LawfulChip self → Lawful r) ⌝ }
+        ensures result_value { as_form result ≡ in_edition (as_chip self) edition }
+        ensures lawful { LawfulChip self → Lawful result }
     {
         Form {
             slots: self.slots,
@@ -93,23 +94,24 @@ impl Chip {
 impl Form {
     // The bytes of a page.
     pub fn size(self) -> usize
-        requires { ⌜ Lawful self ⌝ }
-        ensures { λ r. ⌜ r ≡ size (as-form self) ⌝ }
+        requires { Lawful self }
+        ensures { result ≡ size (as_form self) }
     {
         HEADER_SIZE + 4 * self.slots
     }
 
     // The offset at which a page begins.
     pub fn start(self, page: usize) -> usize
-        requires { ⌜ Lawful self × (page ≤ 32) ⌝ }
-        ensures { λ r. ⌜ r ≡ page * size (as-form self) ⌝ }
-        ensures { λ r. ⌜ r ≤ 65536 ⌝ }
+        requires { Lawful self × (page ≤ 32) }
+        ensures value { result ≡ page * size (as_form self) }
+        ensures upper_bound { result ≤ 65536 }
     {
         page * self.size()
     }
 }
 
 // A cleared page has its wear, an open one of kind 1 or 2 its order.
+#[derive(Drop)]
 pub enum State {
     Cleared(u16),
     Open1(u32),
@@ -120,7 +122,7 @@ pub enum State {
 
 // P4. Wear of a page: a sound wear word with the edition as its third byte. Here and below the cheap test comes first.
 pub fn is_wear(w: Word, edition: u8) -> bool
-    ensures { λ r. ⌜ r ≡ is-wear edition (as-word w) ⌝ }
+    ensures { result ≡ is_wear edition (as_word w) }
 {
     if w.c != edition {
         return false;
@@ -130,7 +132,7 @@ pub fn is_wear(w: Word, edition: u8) -> bool
 
 // W8. Opening word: sound, of kind 1 or of kind 2.
 pub fn is_opening(w: Word, kind: u32) -> bool
-    ensures { λ r. ⌜ r ≡ is-opening kind (as-word w) ⌝ }
+    ensures { result ≡ is_opening kind (as_word w) }
 {
     if words::low24(w) % 4 != kind {
         return false;
@@ -140,16 +142,16 @@ pub fn is_opening(w: Word, kind: u32) -> bool
 
 // The order that an opening word gives.
 pub fn order_in(w: Word) -> u32
-    ensures { λ r. ⌜ r ≡ order-in (as-word w) ⌝ }
-    ensures { λ r. ⌜ r < 4194304 ⌝ }
+    ensures value { result ≡ order_in (as_word w) }
+    ensures upper_bound { result < 4194304 }
 {
     words::low24(w) / 4
 }
 
 // W9. Done word: it matches the opening word.
 pub fn is_done(w: Word, order: u32) -> bool
-    requires { ⌜ order < 4194304 ⌝ }
-    ensures { λ r. ⌜ r ≡ is-done order (as-word w) ⌝ }
+    requires { order < 4194304 }
+    ensures { result ≡ is_done order (as_word w) }
 {
     if words::low24(w) != order * 4 + 3 {
         return false;
@@ -159,7 +161,7 @@ pub fn is_done(w: Word, order: u32) -> bool
 
 // Whether every word of the bytes is blank.
 pub fn all_blank(s: &[u8]) -> bool
-    ensures { λ r. ⌜ r ≡ all-blank (words (now (s .entry))) ⌝ }
+    ensures { result ≡ all_blank (words s.now) }
 {
     let mut at = 0;
     while at + 4 <= s.len() {
@@ -173,9 +175,9 @@ pub fn all_blank(s: &[u8]) -> bool
 
 // The state of a page that has a sound wear word: what its other words make of it.
 fn after_wear(page: &[u8], wear: u16) -> State
-    requires { ⌜ 12 ≤ length (now page) ⌝ }
-    ensures { λ r. ⌜ as-state r ≡ state-after-wear (words (now (page .entry))) wear ⌝ }
-    ensures { λ r. ⌜ order (as-state r) < 4194304 ⌝ }
+    requires { 12 ≤ length page.now }
+    ensures result_value { as_state result ≡ state_after_wear (words page.now) wear }
+    ensures result_bound { order (as_state result) < 4194304 }
 {
     let opening = words::word_at(page, 4);
     let order = order_in(opening);
@@ -195,9 +197,9 @@ fn after_wear(page: &[u8], wear: u16) -> State
 }
 
 pub fn state_of(page: &[u8], edition: u8) -> State
-    requires { ⌜ 12 ≤ length (now page) ⌝ }
-    ensures { λ r. ⌜ as-state r ≡ state edition (words (now (page .entry))) ⌝ }
-    ensures { λ r. ⌜ order (as-state r) < 4194304 ⌝ }
+    requires { 12 ≤ length page.now }
+    ensures result_value { as_state result ≡ state edition (words page.now) }
+    ensures result_bound { order (as_state result) < 4194304 }
 {
     let wear = words::word_at(page, 0);
     if is_wear(wear, edition) {
@@ -208,8 +210,8 @@ pub fn state_of(page: &[u8], edition: u8) -> State
 
 // P9. Whether a page is open by itself, its own wear word telling the edition. What its slots hold has no part in that.
 fn is_open_itself(page: &[u8], wear: Word) -> bool
-    requires { ⌜ (12 ≤ length (now page)) × (as-word wear ≡ wear-part (words (now page))) ⌝ }
-    ensures { λ r. ⌜ r ≡ is-open (state (wear .c) (words (now (page .entry)))) ⌝ }
+    requires { (12 ≤ length page.now) × (as_word wear ≡ wear_part (words page.now)) }
+    ensures { result ≡ is_open (state wear.c (words page.now)) }
 {
     if !words::is_sound(wear) {
         return false;
@@ -226,8 +228,8 @@ fn is_open_itself(page: &[u8], wear: Word) -> bool
 
 // The edition of a page that is open by itself, if the chip has that edition; else 0, which is none.
 pub fn own_edition(page: &[u8], chip: Chip) -> u8
-    requires { ⌜ 12 ≤ length (now page) ⌝ }
-    ensures { λ r. ⌜ r ≡ cond (opens-itself (as-chip chip) (words (now (page .entry)))) (own-edition (words (now (page .entry)))) 0 ⌝ }
+    requires { 12 ≤ length page.now }
+    ensures { result ≡ cond (opens_itself (as_chip chip) (words page.now)) (own_edition (words page.now)) 0 }
 {
     let wear = words::word_at(page, 0);
     if wear.c < chip.first {
@@ -244,8 +246,8 @@ pub fn own_edition(page: &[u8], chip: Chip) -> u8
 
 // P4. Wear of a page; `other` for a page that has none.
 pub fn wear_or(page: &[u8], edition: u8, other: u16) -> u16
-    requires { ⌜ 4 ≤ length (now page) ⌝ }
-    ensures { λ r. ⌜ r ≡ or-value (wear-in edition (words (now (page .entry)))) other ⌝ }
+    requires { 4 ≤ length page.now }
+    ensures { result ≡ or_value (wear_in edition (words page.now)) other }
 {
     let w = words::word_at(page, 0);
     let own = words::low16(w);
@@ -257,7 +259,7 @@ pub fn wear_or(page: &[u8], edition: u8, other: u16) -> u16
 
 // C4. New wear: one more, 65,535 at most.
 pub fn one_more(wear: u16) -> u16
-    ensures { λ r. ⌜ r ≡ one-more wear ⌝ }
+    ensures { result ≡ one_more wear }
 {
     if wear == 65535 {
         return 65535;
@@ -267,8 +269,8 @@ pub fn one_more(wear: u16) -> u16
 
 // S8. Free slot: it is the one behind the last slot that isn't blank. How many slots come before it.
 pub fn free_slot(slots: &[u8]) -> usize
-    ensures { λ r. ⌜ r ≡ free-slot (words (now (slots .entry))) ⌝ }
-    ensures { λ r. ⌜ r ≤ length (now (slots .entry)) / 4 ⌝ }
+    ensures value { result ≡ free_slot (words slots.now) }
+    ensures upper_bound { result ≤ length slots.now / 4 }
 {
     let mut n = slots.len() / 4;
     while 0 < n {

@@ -1,31 +1,25 @@
 // The calls that leave the image as it is: read, blank read and pairing lookup. An image of any length and content is lawful.
+ghost use Rattle.std.specs.Prelude.{◌≡◌, List, ℕ, ◌≤◌, ◌<◌, length};
+ghost use Rattle.rules.specs.Store.{Setting, Rising, last_of};
+ghost use Rattle.rules.specs.Owner.{named_owner};
+ghost use Rattle.rules.specs.Call.{refused_reading, refused_lookup, read, blank_read, code, pairing, lookup};
+ghost use Rattle.pages.specs.Read.{as_form, Lawful};
+ghost use Rattle.settings.specs.Held.{Holds};
+ghost use Rattle.reading.specs.Answers.{as_reading, as_pairing, digit_of};
+
 use pages::Form;
-use settings::HELD_MAX;
-use settings::Held;
-use settings::NO_ADDRESS;
-use settings::NO_VALUE;
-use survey::ADDRESS;
-use survey::NOT_HELD;
-use survey::OK;
-use survey::OWNER;
-ghost use mathlib.Core.Path.{_≡_};
-ghost use mathlib.Core.List.{List};
-ghost use Prim.Native.Nat.{ℕ, _≤_, _<_};
-ghost use lib.ListN.{length};
-ghost use Rattle·rules.specs.Store.{Setting, Rising, last-of};
-ghost use Rattle·rules.specs.Owner.{named-owner};
-ghost use Rattle·rules.specs.Call.{refused-reading, refused-lookup, read, blank-read, code, pairing, lookup};
-ghost use Rattle·pages.specs.Read.{as-form, Lawful};
-ghost use Rattle·settings.specs.Held.{Holds};
-ghost use Rattle·reading·specs.specs.Answers.{as-reading, as-pairing, digit-of};
+use settings::{HELD_MAX, Held, NO_ADDRESS, NO_VALUE};
+use survey::{ADDRESS, NOT_HELD, OK, OWNER};
 
 #[repr(C)]
+#[derive(Drop)]
 pub struct Reading {
     pub number: u8,
     pub value: u8,
 }
 
 #[repr(C)]
+#[derive(Drop)]
 pub struct Pairing {
     pub number: u8,
     pub paired: bool,
@@ -40,13 +34,13 @@ const BLANK: u8 = 0;
 
 // N22. A refusal answers its number, and nothing else.
 pub fn refused(number: u8) -> Reading
-    ensures { λ r. ⌜ as-reading r ≡ refused-reading number ⌝ }
+    ensures { as_reading result ≡ refused_reading number }
 {
     Reading { number, value: 0 }
 }
 
 pub fn refused_lookup(number: u8) -> Pairing
-    ensures { λ r. ⌜ as-pairing r ≡ refused-lookup number ⌝ }
+    ensures { as_pairing result ≡ refused_lookup number }
 {
     Pairing {
         number,
@@ -59,8 +53,8 @@ pub fn refused_lookup(number: u8) -> Pairing
 }
 
 pub fn read(image: &[u8], form: Form, timer: bool, address: u16) -> Reading
-    requires { ⌜ Lawful form ⌝ }
-    ensures { λ r. ⌜ as-reading r ≡ read (as-form form) (named-owner timer) address (now (image .entry)) ⌝ }
+    requires { Lawful form }
+    ensures { as_reading result ≡ read (as_form form) (named_owner timer) address image.now }
 {
     let mut addresses = [NO_ADDRESS; HELD_MAX];
     let mut values = [NO_VALUE; HELD_MAX];
@@ -83,8 +77,8 @@ pub fn read(image: &[u8], form: Form, timer: bool, address: u16) -> Reading
 
 // C18. Blank read: what a read answers, and a blank of an address that is not held.
 pub fn blank_read(image: &[u8], form: Form, timer: bool, address: u16) -> Reading
-    requires { ⌜ Lawful form ⌝ }
-    ensures { λ r. ⌜ as-reading r ≡ blank-read (as-form form) (named-owner timer) address (now (image .entry)) ⌝ }
+    requires { Lawful form }
+    ensures { as_reading result ≡ blank_read (as_form form) (named_owner timer) address image.now }
 {
     let reading = read(image, form, timer, address);
     let number = reading.number;
@@ -98,14 +92,15 @@ pub fn blank_read(image: &[u8], form: Form, timer: bool, address: u16) -> Readin
 }
 
 // A digit of the pairing code: whether its address is held, and its blank read.
+#[derive(Drop)]
 struct Digit {
     held: bool,
     value: u8,
 }
 
 fn digit_at<'a>(addresses: &'a [u16; HELD_MAX], values: &'a [u8; HELD_MAX], address: u16) -> Digit
-    ensures { λ r. ⌜ ((t : List Setting) (held : ℕ) → Rising t → length t ≤ 192 → address < 65535
-        → Holds (now (addresses .entry)) (now (values .entry)) held t → r ≡ digit-of (last-of address t)) ⌝ }
+    ensures { (t : List Setting) (held : ℕ) → Rising t → length t ≤ 192 → address < 65535
+        → Holds addresses.now values.now held t → result ≡ digit_of (last_of address t) }
 {
     match settings::value_in(addresses, values, address) {
         Held::Value(value) => Digit { held: true, value },
@@ -118,8 +113,8 @@ fn digit_at<'a>(addresses: &'a [u16; HELD_MAX], values: &'a [u8; HELD_MAX], addr
 
 // C19. Pairing lookup: the digits at the addresses 16 to 19, paired if all four are held, whatever their values.
 fn pairing_of<'a>(addresses: &'a [u16; HELD_MAX], values: &'a [u8; HELD_MAX]) -> Pairing
-    ensures { λ r. ⌜ ((t : List Setting) (held : ℕ) → Rising t → length t ≤ 192
-        → Holds (now (addresses .entry)) (now (values .entry)) held t → as-pairing r ≡ pairing (code (λ a. last-of a t))) ⌝ }
+    ensures { (t : List Setting) (held : ℕ) → Rising t → length t ≤ 192
+        → Holds addresses.now values.now held t → as_pairing result ≡ pairing (code (λ a. last_of a t)) }
 {
     let digit0 = digit_at(addresses, values, 16);
     let digit1 = digit_at(addresses, values, 17);
@@ -136,8 +131,8 @@ fn pairing_of<'a>(addresses: &'a [u16; HELD_MAX], values: &'a [u8; HELD_MAX]) ->
 }
 
 pub fn lookup(image: &[u8], form: Form) -> Pairing
-    requires { ⌜ Lawful form ⌝ }
-    ensures { λ r. ⌜ as-pairing r ≡ lookup (as-form form) (now (image .entry)) ⌝ }
+    requires { Lawful form }
+    ensures { as_pairing result ≡ lookup (as_form form) image.now }
 {
     let mut addresses = [NO_ADDRESS; HELD_MAX];
     let mut values = [NO_VALUE; HELD_MAX];

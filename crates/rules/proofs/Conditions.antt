@@ -1,95 +1,95 @@
 -- What a word in a slot is, by the tests that the definition is made of. Assumes nothing.
-use Prim.Native.Nat.{ℕ, _-_, _≤_, _<_}
-use mathlib.Core.Path.{_≡_, refl, sym, ap, _∙_}
-use mathlib.Core.Bool.{Bool, true, false, cond, _&&_}
+use Prim.Native.Nat.{ℕ, ◌-◌, ◌≤◌, ◌<◌}
+use mathlib.Core.Path.{◌≡◌, refl, sym, ap, ◌∙◌}
+use mathlib.Core.Bool.{Bool, true, false, cond, ◌&&◌}
 use lib.Dec.{eqb, leb}
 use native.Mathlib.Omega.{arith}
-use borrow.Author.Tests.{eq-eqb, ne-eqb, eqb-false, le-leb, lt-leb}
-use Rattle·rules·specs.specs.Word.{Word, word, sound, blank, second-blank, Blank, HalfWritten, Spoiled, condition, low16, third}
-use Rattle·rules·specs.specs.Word.{record-word, mark-word, Slot, recorded, opens, closes, neither, mark, has-groups, sound-slot, slot}
-use Rattle·rules·proofs.proofs.Truth.{is-false, by-cases}
-use Rattle·rules·proofs.proofs.Words.{blank-is, blank-not-sound, record-address, record-value, record-sound}
+use borrow.Author.Tests.{eq-eqb, ne_eqb, eqb-false, le-leb, lt-leb}
+use Rattle.rules.specs.Word.{Word, word, sound, blank, second_blank, Blank, HalfWritten, Spoiled, condition, low16, third}
+use Rattle.rules.specs.Word.{record_word, mark_word, Slot, recorded, opens, closes, neither, mark, has_groups, sound_slot, slot}
+use Rattle.rules.proofs.Truth.{is_false, by_cases}
+use Rattle.rules.proofs.Words.{blank_is, blank_not_sound, record_address, record_value, record_sound}
 
 -- ---- marks, by their values
 
-pub mark-zero : closes 0 ≡ mark 0
+pub mark_zero : closes 0 ≡ mark 0
 unfolding mark
-mark-zero = refl
+mark_zero = refl
 
-pub mark-opens : (v : ℕ) → (v ≡ 0 → ⊥) → v ≤ 8 → opens v ≡ mark v
+pub mark_opens : (v : ℕ) → (v ≡ 0 → ⊥) → v ≤ 8 → opens v ≡ mark v
 unfolding mark
-mark-opens v n l = rw (ne-eqb v 0 n, le-leb v 8 l)
+mark_opens v n l = rw (ne_eqb v 0 n, le-leb v 8 l)
 
-pub mark-closes : (v : ℕ) → 129 ≤ v → v ≤ 136 → closes (v - 128) ≡ mark v
+pub mark_closes : (v : ℕ) → 129 ≤ v → v ≤ 136 → closes (v - 128) ≡ mark v
 unfolding mark
-mark-closes v l m = rw (ne-eqb v 0 (omega arith), lt-leb v 8 (omega arith), le-leb 129 v l, le-leb v 136 m)
+mark_closes v l m = rw (ne_eqb v 0 (omega arith), lt-leb v 8 (omega arith), le-leb 129 v l, le-leb v 136 m)
 
-pub mark-between : (v : ℕ) → 8 < v → v < 129 → neither Spoiled ≡ mark v
+pub mark_between : (v : ℕ) → 8 < v → v < 129 → neither Spoiled ≡ mark v
 unfolding mark
-mark-between v l m = rw (ne-eqb v 0 (omega arith), lt-leb v 8 l, lt-leb 129 v m)
+mark_between v l m = rw (ne_eqb v 0 (omega arith), lt-leb v 8 l, lt-leb 129 v m)
 
-pub mark-beyond : (v : ℕ) → 136 < v → neither Spoiled ≡ mark v
+pub mark_beyond : (v : ℕ) → 136 < v → neither Spoiled ≡ mark v
 unfolding mark
-mark-beyond v l = rw (ne-eqb v 0 (omega arith), lt-leb v 8 (omega arith), le-leb 129 v (omega arith), lt-leb v 136 l)
+mark_beyond v l = rw (ne_eqb v 0 (omega arith), lt-leb v 8 (omega arith), le-leb 129 v (omega arith), lt-leb v 136 l)
 
 module _ (edition : ℕ) where
   -- ---- sound or not
 
   -- what a word is that is not sound
-  pub unsound-told : (w : Word) → sound w ≡ false → neither (condition w) ≡ slot edition w
+  pub unsound_told : (w : Word) → sound w ≡ false → neither (condition w) ≡ slot edition w
   unfolding slot
-  unsound-told w s = rw s
+  unsound_told w s = rw s
 
-  pub blank-told : (w : Word) → blank w ≡ true → neither Blank ≡ slot edition w
+  pub blank_told : (w : Word) → blank w ≡ true → neither Blank ≡ slot edition w
   unfolding slot condition
-  blank-told w b = rw (b, ap sound (blank-is w b) ∙ blank-not-sound)
+  blank_told w b = rw (b, ap sound (blank_is w b) ∙ blank_not_sound)
 
   -- ---- without an address
 
   -- a mark, if there are marks
-  abbrev pub mark-or-spoiled : (value : ℕ) → Slot
-  mark-or-spoiled v = cond (has-groups edition) (mark v) (neither Spoiled)
+  abbrev pub mark_or_spoiled : (value : ℕ) → Slot
+  mark_or_spoiled v = cond (has_groups edition) (mark v) (neither Spoiled)
 
-  pub mark-told : (w : Word) → low16 w ≡ 65535 → sound w ≡ true → mark-or-spoiled (third w) ≡ slot edition w
-  unfolding slot sound-slot
-  mark-told w e s = rw (s, eq-eqb (low16 w) 65535 e)
+  pub mark_told : (w : Word) → low16 w ≡ 65535 → sound w ≡ true → mark_or_spoiled (third w) ≡ slot edition w
+  unfolding slot sound_slot
+  mark_told w e s = rw (s, eq-eqb (low16 w) 65535 e)
 
-  pub spoiled-told : (c d : ℕ) → blank (word 255 255 c d) ≡ false → sound (word 255 255 c d) ≡ false → neither Spoiled ≡ slot edition (word 255 255 c d)
-  unfolding slot condition blank second-blank
-  spoiled-told c d b s = rw (s, b)
+  pub spoiled_told : (c d : ℕ) → blank (word 255 255 c d) ≡ false → sound (word 255 255 c d) ≡ false → neither Spoiled ≡ slot edition (word 255 255 c d)
+  unfolding slot condition blank second_blank
+  spoiled_told c d b s = rw (s, b)
 
-  pub unmarked-told : has-groups edition ≡ false → (c d : ℕ) → blank (word 255 255 c d) ≡ false → neither Spoiled ≡ slot edition (word 255 255 c d)
+  pub unmarked_told : has_groups edition ≡ false → (c d : ℕ) → blank (word 255 255 c d) ≡ false → neither Spoiled ≡ slot edition (word 255 255 c d)
   unfolding low16
-  unmarked-told h c d b =
-      by-cases (sound (word 255 255 c d)) (λ s. rw h at (mark-told (word 255 255 c d) refl s)) (λ s. spoiled-told c d b s)
+  unmarked_told h c d b =
+      by_cases (sound (word 255 255 c d)) (λ s. rw h at (mark_told (word 255 255 c d) refl s)) (λ s. spoiled_told c d b s)
 
   -- ---- with an address
 
   module _ (w : Word) (n : low16 w ≡ 65535 → ⊥) where
-    not-blank : blank w ≡ false
+    not_blank : blank w ≡ false
     unfolding low16
-    not-blank = is-false (blank w) (λ b. n (ap low16 (blank-is w b)))
+    not_blank = is_false (blank w) (λ b. n (ap low16 (blank_is w b)))
 
-    pub sound-told : sound w ≡ true → recorded (low16 w) (third w) ≡ slot edition w
-    unfolding slot sound-slot
-    sound-told s = rw (s, ne-eqb (low16 w) 65535 n)
+    pub sound_told : sound w ≡ true → recorded (low16 w) (third w) ≡ slot edition w
+    unfolding slot sound_slot
+    sound_told s = rw (s, ne_eqb (low16 w) 65535 n)
 
-    pub half-told : sound w ≡ false → second-blank w ≡ true → neither HalfWritten ≡ slot edition w
+    pub half_told : sound w ≡ false → second_blank w ≡ true → neither HalfWritten ≡ slot edition w
     unfolding slot condition
-    half-told s h = rw (s, not-blank, h)
+    half_told s h = rw (s, not_blank, h)
 
-    pub other-told : sound w ≡ false → second-blank w ≡ false → neither Spoiled ≡ slot edition w
+    pub other_told : sound w ≡ false → second_blank w ≡ false → neither Spoiled ≡ slot edition w
     unfolding slot condition
-    other-told s h = rw (s, not-blank, h)
+    other_told s h = rw (s, not_blank, h)
 
   -- ---- words that are made
 
-  pub record-told : (a v : ℕ) → (a ≡ 65535 → ⊥) → recorded a v ≡ slot edition (record-word a v)
-  record-told a v h =
-      rw (record-address a v, record-value a v) at (sound-told (record-word a v) (λ e. h (sym (record-address a v) ∙ e)) (record-sound a v))
+  pub record_told : (a v : ℕ) → (a ≡ 65535 → ⊥) → recorded a v ≡ slot edition (record_word a v)
+  record_told a v h =
+      rw (record_address a v, record_value a v) at (sound_told (record_word a v) (λ e. h (sym (record_address a v) ∙ e)) (record_sound a v))
 
-  pub mark-made : (v : ℕ) → has-groups edition ≡ true → mark v ≡ slot edition (mark-word v)
-  mark-made v g = rw (record-value 65535 v, g) at (mark-told (mark-word v) (record-address 65535 v) (record-sound 65535 v))
+  pub mark_made : (v : ℕ) → has_groups edition ≡ true → mark v ≡ slot edition (mark_word v)
+  mark_made v g = rw (record_value 65535 v, g) at (mark_told (mark_word v) (record_address 65535 v) (record_sound 65535 v))
 
 -- ---- what is a record has an address
 
@@ -100,16 +100,16 @@ Addressed (closes n) = Unit {0}
 Addressed (neither c) = Unit {0}
 
 -- whatever a test tells
-either-addressed : (b : Bool) (s t : Slot) → Addressed s → Addressed t → Addressed (cond b s t)
-either-addressed true s t p q = p
-either-addressed false s t p q = q
+either_addressed : (b : Bool) (s t : Slot) → Addressed s → Addressed t → Addressed (cond b s t)
+either_addressed true s t p q = p
+either_addressed false s t p q = q
 
-pub slot-addressed : (edition : ℕ) (w : Word) → Addressed (slot edition w)
-unfolding slot sound-slot mark Addressed
-slot-addressed edition w =
+pub slot_addressed : (edition : ℕ) (w : Word) → Addressed (slot edition w)
+unfolding slot sound_slot mark Addressed
+slot_addressed edition w =
     let v = third w in
     let marked : Addressed (mark v) =
-    either-addressed (eqb v 0) _ _ tt (either-addressed (leb v 8) _ _ tt (either-addressed (leb 129 v && leb v 136) _ _ tt tt)) in
-    let sound-one : Addressed (sound-slot edition w) =
-    by-cases (eqb (low16 w) 65535) (λ t. rw t (either-addressed (has-groups edition) _ _ marked tt)) (λ t. rw t (eqb-false (low16 w) 65535 t)) in
-    either-addressed (sound w) _ _ sound-one tt
+    either_addressed (eqb v 0) _ _ tt (either_addressed (leb v 8) _ _ tt (either_addressed (leb 129 v && leb v 136) _ _ tt tt)) in
+    let sound_one : Addressed (sound_slot edition w) =
+    by_cases (eqb (low16 w) 65535) (λ t. rw t (either_addressed (has_groups edition) _ _ marked tt)) (λ t. rw t (eqb-false (low16 w) 65535 t)) in
+    either_addressed (sound w) _ _ sound_one tt

@@ -1,76 +1,76 @@
 -- A finished format leaves a good store that holds nothing. Assumes nothing.
 use Prim.Native.Nat.{ℕ, zero, suc}
-use mathlib.Core.Path.{_≡_, refl, ap, _∙_}
-use mathlib.Core.List.{List, [], _∷_, append-nil}
+use mathlib.Core.Path.{◌≡◌, refl, ap, ◌∙◌}
+use mathlib.Core.List.{List, [], ◌∷◌, append-nil}
 use native.Mathlib.Omega.{arith}
 use lib.ListN.{replicate, length-replicate}
-use Rattle·rules·specs.specs.Word.{Word, wear-word, opening-word}
-use Rattle·rules·specs.specs.Page.{blank-word, wear-part, open₁, cleared, Page, page, state, slots}
-use Rattle·rules·specs.specs.Store.{states, base, greatest, order, order₂, used, used-pages, add-page, oldest-first, insert, each, put-all}
-use Rattle·rules·specs.specs.Store.{records, all-records}
-use Rattle·rules·specs.specs.Call.{among, repeats}
-use Rattle·rules·proofs.proofs.Words.{wear-sound, wear-edition, opening-sound, sound-light}
-use Rattle·rules·proofs.proofs.Pages.{AllLight, replicate-light, fresh-cleared, wear-is-wear, opened-plain}
-use Rattle·rules·proofs.proofs.Slots.{blank-records}
-use Rattle·rules·proofs.proofs.Stores.{orders, NoneUsed, none-used-pages}
-use Rattle·rules·proofs.proofs.Phases.{Pages}
-use Rattle·rules·proofs.proofs.Told.{told}
-use Rattle·rules·proofs.proofs.Renewing.{fresh, opened, formatted}
-use Rattle·rules·proofs.proofs.Good.{Frame, slots-in, AllWhole, Good}
+use Rattle.rules.specs.Word.{Word, wear_word, opening_word}
+use Rattle.rules.specs.Page.{blank_word, wear_part, open₁, cleared, Page, page, state, slots}
+use Rattle.rules.specs.Store.{states, base, greatest, order, order₂, used, used_pages, add_page, oldest_first, insert, each, put_all}
+use Rattle.rules.specs.Store.{records, all_records}
+use Rattle.rules.specs.Call.{among, repeats}
+use Rattle.rules.proofs.Words.{wear_sound, wear_edition, opening_sound, sound_light}
+use Rattle.rules.proofs.Pages.{AllLight, replicate_light, fresh_cleared, wear_is_wear, opened_plain}
+use Rattle.rules.proofs.Slots.{blank_records}
+use Rattle.rules.proofs.Stores.{orders, NoneUsed, none_used_pages}
+use Rattle.rules.proofs.Phases.{Pages}
+use Rattle.rules.proofs.Told.{told}
+use Rattle.rules.proofs.Renewing.{fresh, opened, formatted}
+use Rattle.rules.proofs.Good.{Frame, slots_in, AllWhole, Good}
 
 module _ (c : Frame) where
   abbrev e : ℕ
-  e = c .form .edition
+  e = c.form.edition
 
   -- a cleared page of wear 1, n of them, and the store that a format leaves, all of c's form
-  abbrev clear-page : List Word
-  clear-page = fresh e (suc (suc (slots-in c))) 1
+  abbrev clear_page : List Word
+  clear_page = fresh e (suc (suc (slots_in c))) 1
 
-  abbrev clear-pages : ℕ → Pages
-  clear-pages n = replicate n clear-page
+  abbrev clear_pages : ℕ → Pages
+  clear_pages n = replicate n clear_page
 
-  pub clear-state : state e clear-page ≡ cleared 1
-  clear-state = fresh-cleared e 1 (suc (suc (slots-in c)))
+  pub clear_state : state e clear_page ≡ cleared 1
+  clear_state = fresh_cleared e 1 (suc (suc (slots_in c)))
 
-  clear-whole : (n : ℕ) → AllWhole c (clear-pages n)
-  unfolding AllWhole AllLight wear-part
-  clear-whole zero = tt
-  clear-whole (suc n) = (
+  clear_whole : (n : ℕ) → AllWhole c (clear_pages n)
+  unfolding AllWhole AllLight wear_part
+  clear_whole zero = tt
+  clear_whole (suc n) = (
     (
-      ap suc (length-replicate (suc (suc (slots-in c))) blank-word),
-      λ may. (sound-light (wear-word e 1) (wear-sound e 1), replicate-light (suc (suc (slots-in c)))),
-      λ one s. wear-edition e 1,
+      ap suc (length-replicate (suc (suc (slots_in c))) blank_word),
+      λ may. (sound_light (wear_word e 1) (wear_sound e 1), replicate_light (suc (suc (slots_in c)))),
+      λ one s. wear_edition e 1,
     ),
-    clear-whole n,
+    clear_whole n,
   )
 
-  clear-base : (n : ℕ) → base (states (told e (clear-pages n))) ≡ 0
+  clear_base : (n : ℕ) → base (states (told e (clear_pages n))) ≡ 0
   unfolding base greatest states page order₂
-  clear-base zero = refl
-  clear-base (suc n) = rw (clear-state, clear-base n)
+  clear_base zero = refl
+  clear_base (suc n) = rw (clear_state, clear_base n)
 
-  pub clear-unused : (n : ℕ) → NoneUsed 0 (told e (clear-pages n))
+  pub clear_unused : (n : ℕ) → NoneUsed 0 (told e (clear_pages n))
   unfolding NoneUsed page used
-  clear-unused zero = tt
-  clear-unused (suc n) = (rw clear-state, clear-unused n)
+  clear_unused zero = tt
+  clear_unused (suc n) = (rw clear_state, clear_unused n)
 
-  pub opened-state : state e (opened e (slots-in c)) ≡ open₁ 0
-  opened-state = opened-plain e (wear-word e 1) (wear-is-wear e 1) 0 (replicate (suc (slots-in c)) blank-word)
+  pub opened_state : state e (opened e (slots_in c)) ≡ open₁ 0
+  opened_state = opened_plain e (wear_word e 1) (wear_is_wear e 1) 0 (replicate (suc (slots_in c)) blank_word)
 
-  pub format-base : (n : ℕ) → base (states (told e (formatted e (slots-in c) n))) ≡ 0
+  pub format_base : (n : ℕ) → base (states (told e (formatted e (slots_in c) n))) ≡ 0
   unfolding page base greatest states order₂
-  format-base n = rw (opened-state, clear-base n)
+  format_base n = rw (opened_state, clear_base n)
 
-  pub format-good : (n : ℕ) → suc n ≡ c .pages → Good c [] (formatted e (slots-in c) n)
-  unfolding AllWhole AllLight wear-part page order used used-pages add-page orders oldest-first insert each slots repeats among put-all
-  format-good n is =
-      let two = c .two in
-      let m = slots-in c in
-      let st = opened-state in
-      let only : used-pages 0 (told e (formatted e m n)) ≡ page e (opened e m) ∷ [] = rw (st, none-used-pages 0 (told e (clear-pages n)) (clear-unused n)) in
+  pub format_good : (n : ℕ) → suc n ≡ c.pages → Good c [] (formatted e (slots_in c) n)
+  unfolding AllWhole AllLight wear_part page order used used_pages add_page orders oldest_first insert each slots repeats among put_all
+  format_good n is =
+      let two = c.two in
+      let m = slots_in c in
+      let st = opened_state in
+      let only : used_pages 0 (told e (formatted e m n)) ≡ page e (opened e m) ∷ [] = rw (st, none_used_pages 0 (told e (clear_pages n)) (clear_unused n)) in
       record {
-        base-order = 0;
-        used-by = 0 ∷ [];
+        base_order = 0;
+        used_by = 0 ∷ [];
         apart = refl;
         spare = omega arith;
         some = omega arith;
@@ -78,16 +78,16 @@ module _ (c : Frame) where
         keeps = record {
           whole = (
             (
-              ap (λ (x : ℕ). suc (suc (suc x))) (length-replicate m blank-word),
-              λ may. (sound-light (wear-word e 1) (wear-sound e 1), (sound-light (opening-word 1 0) (opening-sound 1 0), replicate-light (suc m))),
-              λ one s. wear-edition e 1,
+              ap (λ (x : ℕ). suc (suc (suc x))) (length-replicate m blank_word),
+              λ may. (sound_light (wear_word e 1) (wear_sound e 1), (sound_light (opening_word 1 0) (opening_sound 1 0), replicate_light (suc m))),
+              λ one s. wear_edition e 1,
             ),
-            clear-whole n,
+            clear_whole n,
           );
-          count = ap suc (length-replicate n clear-page) ∙ is;
-          is-base = format-base n;
-          has-orders = ap orders only ∙ rw st;
-          has-journal = ap (λ (ps : List Page). all-records (oldest-first ps)) only ∙ append-nil (records e (replicate m blank-word))
-              ∙ blank-records e m;
+          count = ap suc (length-replicate n clear_page) ∙ is;
+          is_base = format_base n;
+          has_orders = ap orders only ∙ rw st;
+          has_journal = ap (λ (ps : List Page). all_records (oldest_first ps)) only ∙ append-nil (records e (replicate m blank_word))
+              ∙ blank_records e m;
         };
       }

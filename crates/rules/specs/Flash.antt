@@ -1,9 +1,6 @@
 -- F: what power does to flash. F1. Image: a list of bytes; a page is `size` of them.
-use Prim.Native.Nat.{ℕ, zero, suc, _+_, _*_, _/_, _%_, _≤_}
-use mathlib.Core.Path.{_≡_}
-use mathlib.Core.List.{List, [], _∷_}
-use lib.ListN.{length, take, drop, replicate}
-use lib.Seq.{sets}
+use Rattle.std.specs.Prelude.{ℕ, zero, suc, ◌+◌, ◌*◌, ◌/◌, ◌%◌, ◌≤◌, ◌≡◌, List, [], ◌∷◌, length, take, drop, replicate}
+use Rattle.std.proofs.lemmas.List.Edits.{sets}
 
 -- F2. Half-word: a word of four bytes has two, each with its low byte first.
 pub data Half : Type 0 where
@@ -14,13 +11,13 @@ pub data Step : Type 0 where
   program : (page word : ℕ) → Half → (low high : ℕ) → Step
   erase : (page : ℕ) → Step
 
-abbrev pub half-offset : Half → ℕ
-half-offset first = 0
-half-offset second = 2
+abbrev pub half_offset : Half → ℕ
+half_offset first = 0
+half_offset second = 2
 
 -- where a step works
 unfoldable pub offset : ℕ → Step → ℕ
-offset size (program p w h low high) = p * size + 4 * w + half-offset h
+offset size (program p w h low high) = p * size + 4 * w + half_offset h
 offset size (erase p) = p * size
 
 -- the bytes that a step is to leave there: an erased page is 255 throughout
@@ -29,12 +26,12 @@ aim size (program p w h low high) = low ∷ high ∷ []
 aim size (erase p) = replicate size 255
 
 -- the bytes that stand there
-unfoldable pub bytes-at : ℕ → ℕ → List ℕ → List ℕ
-bytes-at o n i = take n (drop o i)
+unfoldable pub bytes_at : ℕ → ℕ → List ℕ → List ℕ
+bytes_at o n i = take n (drop o i)
 
 -- F4. Program: allowed only where the half-word reads 65,535. F5. Erase: allowed of a page that lies in the image.
 unfoldable pub Allowed : ℕ → Step → List ℕ → Type 0
-Allowed size (program p w h low high) i = bytes-at (offset size (program p w h low high)) 2 i ≡ 255 ∷ 255 ∷ []
+Allowed size (program p w h low high) i = bytes_at (offset size (program p w h low high)) 2 i ≡ 255 ∷ 255 ∷ []
 Allowed size (erase p) i = p * size + size ≤ length i
 
 -- the image after a step
@@ -65,7 +62,7 @@ pub data AllRise : List ℕ → List ℕ → Type 0 where
 -- there.
 unfoldable pub least : ℕ → Step → List ℕ → List ℕ
 least size (program p w h low high) i = low ∷ high ∷ []
-least size (erase p) i = bytes-at (p * size) size i
+least size (erase p) i = bytes_at (p * size) size i
 
 -- F8. Nothing else: what a failing step may leave has no other bit changed.
 pub record Fails (size : ℕ) (s : Step) (i j : List ℕ) : Type 0 where

@@ -1,10 +1,7 @@
 -- S14. Owner: the two programs that share a store, which addresses each owns, and how many it may come to hold.
-use Prim.Native.Nat.{ℕ}
-use mathlib.Core.Bool.{Bool, true, false, cond, not, _||_}
-use mathlib.Core.List.{List, [], _∷_}
-use lib.Dec.{leb}
-use Rattle·rules·specs.specs.Page.{Page}
-use Rattle·rules·specs.specs.Store.{Setting, address-of, settings, count}
+use Rattle.std.specs.Prelude.{ℕ, Bool, true, false, cond, not, ◌||◌, List, [], ◌∷◌, leb}
+use Rattle.rules.specs.Page.{Page}
+use Rattle.rules.specs.Store.{Setting, address_of, settings, count}
 
 pub record Owner : Type 0 where
   pub owns : (address : ℕ) → Bool
@@ -22,17 +19,17 @@ abbrev pub anyone : Owner
 anyone = record { owns = λ a. true; most = 192 }
 
 -- C1. the one of the two that a call names
-abbrev pub named-owner : (timer : Bool) → Owner
-named-owner is-timer = cond is-timer timer handset
+abbrev pub named_owner : (timer : Bool) → Owner
+named_owner is_timer = cond is_timer timer handset
 
 -- whether a setting is the owner's, and whether one of several is not
-abbrev pub is-own : Owner → Setting → Bool
-is-own o r = o .owns (address-of r)
+abbrev pub is_own : Owner → Setting → Bool
+is_own o r = o.owns (address_of r)
 
-unfoldable pub a-foreign : Owner → List Setting → Bool
-a-foreign o [] = false
-a-foreign o (r ∷ rs) = not (is-own o r) || a-foreign o rs
+unfoldable pub a_foreign : Owner → List Setting → Bool
+a_foreign o [] = false
+a_foreign o (r ∷ rs) = not (is_own o r) || a_foreign o rs
 
 -- how many addresses of the owner are held
-unfoldable pub held-by : Owner → List Page → ℕ
-held-by o ps = count (is-own o) (settings ps)
+unfoldable pub held_by : Owner → List Page → ℕ
+held_by o ps = count (is_own o) (settings ps)

@@ -1,16 +1,12 @@
 -- S: the store. It is the list of its pages, by index.
-use Prim.Native.Nat.{ℕ, zero, suc, _+_, _<_, max}
-use mathlib.Core.Bool.{Bool, true, false, cond, _&&_}
-use mathlib.Core.List.{List, [], _∷_, _++_, map}
-use mathlib.Core.Option.{Option, none, some}
-use lib.ListN.{length, getD}
-use lib.Dec.{eqb, leb, ltb}
-use Rattle·rules·specs.specs.Word.{Word, blank, Slot, recorded, opens, closes, neither, slot}
-use Rattle·rules·specs.specs.Page.{State, cleared, open₁, open₂, receiving, bad, Page}
+use Rattle.std.specs.Prelude.{ℕ, zero, suc, ◌+◌, ◌<◌, max, Bool, true, false, cond, ◌&&◌, List, [], ◌∷◌, ◌++◌, map, length, get_or, eqb, leb, ltb}
+use Rattle.std.proofs.Math.Option.{Option, none, some}
+use Rattle.rules.specs.Word.{Word, blank, Slot, recorded, opens, closes, neither, slot}
+use Rattle.rules.specs.Page.{State, cleared, open₁, open₂, receiving, bad, Page}
 
 unfoldable pub states : List Page → List State
 states [] = []
-states (p ∷ ps) = p .state ∷ states ps
+states (p ∷ ps) = p.state ∷ states ps
 
 -- S1. Base order: the greatest order of an open page of kind 2, 0 without one.
 unfoldable pub order₂ : State → ℕ
@@ -35,19 +31,19 @@ used b (open₂ o) = leb b o
 used b receiving = false
 used b bad = false
 
-unfoldable pub is-cleared : State → Bool
-is-cleared (cleared n) = true
-is-cleared (open₁ o) = false
-is-cleared (open₂ o) = false
-is-cleared receiving = false
-is-cleared bad = false
+unfoldable pub is_cleared : State → Bool
+is_cleared (cleared n) = true
+is_cleared (open₁ o) = false
+is_cleared (open₂ o) = false
+is_cleared receiving = false
+is_cleared bad = false
 
-unfoldable pub is-open : State → Bool
-is-open (cleared n) = false
-is-open (open₁ o) = true
-is-open (open₂ o) = true
-is-open receiving = false
-is-open bad = false
+unfoldable pub is_open : State → Bool
+is_open (cleared n) = false
+is_open (open₁ o) = true
+is_open (open₂ o) = true
+is_open receiving = false
+is_open bad = false
 
 unfoldable pub order : State → ℕ
 order (cleared n) = 0
@@ -57,13 +53,13 @@ order receiving = 0
 order bad = 0
 
 -- the orders of the used pages
-unfoldable pub add-order : Bool → ℕ → List ℕ → List ℕ
-add-order true o os = o ∷ os
-add-order false o os = os
+unfoldable pub add_order : Bool → ℕ → List ℕ → List ℕ
+add_order true o os = o ∷ os
+add_order false o os = os
 
-unfoldable pub used-orders : (base : ℕ) → List State → List ℕ
-used-orders b [] = []
-used-orders b (s ∷ ss) = add-order (used b s) (order s) (used-orders b ss)
+unfoldable pub used_orders : (base : ℕ) → List State → List ℕ
+used_orders b [] = []
+used_orders b (s ∷ ss) = add_order (used b s) (order s) (used_orders b ss)
 
 -- every number of a list is below m
 unfoldable pub Under : ℕ → List ℕ → Type 0
@@ -71,45 +67,45 @@ Under m [] = Unit {0}
 Under m (o ∷ os) = (o < m) × Under m os
 
 -- S3. Active: the used page of greatest order. Its order, and its index.
-unfoldable pub active-order : List State → ℕ
-active-order ss = greatest (used-orders (base ss) ss)
+unfoldable pub active_order : List State → ℕ
+active_order ss = greatest (used_orders (base ss) ss)
 
-unfoldable pub is-active : (base order : ℕ) → State → Bool
-is-active b o s = used b s && eqb (order s) o
+unfoldable pub is_active : (base order : ℕ) → State → Bool
+is_active b o s = used b s && eqb (order s) o
 
-unfoldable pub index-of : (State → Bool) → List State → ℕ
-index-of test [] = 0
-index-of test (s ∷ ss) = cond (test s) 0 (suc (index-of test ss))
+unfoldable pub index_of : (State → Bool) → List State → ℕ
+index_of test [] = 0
+index_of test (s ∷ ss) = cond (test s) 0 (suc (index_of test ss))
 
-unfoldable pub active-index : List State → ℕ
-active-index ss = index-of (is-active (base ss) (active-order ss)) ss
+unfoldable pub active_index : List State → ℕ
+active_index ss = index_of (is_active (base ss) (active_order ss)) ss
 
 -- the used pages, the oldest first
-unfoldable pub add-page : Bool → Page → List Page → List Page
-add-page true p ps = p ∷ ps
-add-page false p ps = ps
+unfoldable pub add_page : Bool → Page → List Page → List Page
+add_page true p ps = p ∷ ps
+add_page false p ps = ps
 
-unfoldable pub used-pages : (base : ℕ) → List Page → List Page
-used-pages b [] = []
-used-pages b (p ∷ ps) = add-page (used b (p .state)) p (used-pages b ps)
+unfoldable pub used_pages : (base : ℕ) → List Page → List Page
+used_pages b [] = []
+used_pages b (p ∷ ps) = add_page (used b p.state) p (used_pages b ps)
 
 unfoldable pub insert : Page → List Page → List Page
 insert p [] = p ∷ []
-insert p (q ∷ qs) = cond (leb (order (p .state)) (order (q .state))) (p ∷ q ∷ qs) (q ∷ insert p qs)
+insert p (q ∷ qs) = cond (leb (order p.state) (order q.state)) (p ∷ q ∷ qs) (q ∷ insert p qs)
 
-unfoldable pub oldest-first : List Page → List Page
-oldest-first [] = []
-oldest-first (p ∷ ps) = insert p (oldest-first ps)
+unfoldable pub oldest_first : List Page → List Page
+oldest_first [] = []
+oldest_first (p ∷ ps) = insert p (oldest_first ps)
 
 -- S7. an address with its value
 pub data Setting : Type 0 where
   setting : (address value : ℕ) → Setting
 
-abbrev pub address-of : Setting → ℕ
-address-of (setting a v) = a
+abbrev pub address_of : Setting → ℕ
+address_of (setting a v) = a
 
-abbrev pub value-of : Setting → ℕ
-value-of (setting a v) = v
+abbrev pub value_of : Setting → ℕ
+value_of (setting a v) = v
 
 -- S11. Group. Where a slot stands: outside a group; inside one of that number, with nothing but these records between it and the opening; or
 -- inside one that has something else there, and so is lost.
@@ -134,11 +130,11 @@ behind lost (closes m) = outside
 behind lost (neither c) = lost
 
 -- S12. Records of a group: they count if it is closed with its own number and that is how many they are. What counts by a slot.
-abbrev pub rightly-closed : (number closing : ℕ) → List Setting → Bool
-rightly-closed n m rs = eqb m n && eqb (length rs) n
+abbrev pub rightly_closed : (number closing : ℕ) → List Setting → Bool
+rightly_closed n m rs = eqb m n && eqb (length rs) n
 
 unfoldable pub closed : (number closing : ℕ) → List Setting → List Setting
-closed n m rs = cond (rightly-closed n m rs) rs []
+closed n m rs = cond (rightly_closed n m rs) rs []
 
 unfoldable pub counted : Place → Slot → List Setting
 counted outside (recorded a v) = setting a v ∷ []
@@ -156,9 +152,9 @@ unfoldable pub scan : Place → List Slot → List Setting
 scan at [] = []
 scan at (s ∷ ss) = counted at s ++ scan (behind at s) ss
 
-unfoldable pub place-behind : Place → List Slot → Place
-place-behind at [] = at
-place-behind at (s ∷ ss) = place-behind (behind at s) ss
+unfoldable pub place_behind : Place → List Slot → Place
+place_behind at [] = at
+place_behind at (s ∷ ss) = place_behind (behind at s) ss
 
 -- of the slots of a page
 unfoldable pub records : (edition : ℕ) → List Word → List Setting
@@ -170,32 +166,32 @@ each of [] = []
 each of (x ∷ xs) = of x ++ each of xs
 
 -- the records of a page, and of several pages
-abbrev pub records-in : Page → List Setting
-records-in p = records (p .edition) (p .slots)
+abbrev pub records_in : Page → List Setting
+records_in p = records p.edition p.slots
 
-abbrev pub all-records : List Page → List Setting
-all-records ps = each records-in ps
+abbrev pub all_records : List Page → List Setting
+all_records ps = each records_in ps
 
 -- the records of the used pages, from the first slot of the oldest to the last of the active one
 unfoldable pub journal : List Page → List Setting
-journal ps = all-records (oldest-first (used-pages (base (states ps)) ps))
+journal ps = all_records (oldest_first (used_pages (base (states ps)) ps))
 
 -- S6. Value: the last that the journal has of the address.
-unfoldable pub or-else : Option ℕ → Option ℕ → Option ℕ
-or-else none o = o
-or-else (some v) o = some v
+unfoldable pub or_else : Option ℕ → Option ℕ → Option ℕ
+or_else none o = o
+or_else (some v) o = some v
 
-unfoldable pub last-of : (address : ℕ) → List Setting → Option ℕ
-last-of a [] = none
-last-of a (setting b v ∷ rs) = or-else (last-of a rs) (cond (eqb a b) (some v) none)
+unfoldable pub last_of : (address : ℕ) → List Setting → Option ℕ
+last_of a [] = none
+last_of a (setting b v ∷ rs) = or_else (last_of a rs) (cond (eqb a b) (some v) none)
 
 unfoldable pub value : (address : ℕ) → List Page → Option ℕ
-value a ps = last-of a (journal ps)
+value a ps = last_of a (journal ps)
 
 -- a number, or another where there is none
-unfoldable pub or-value : Option ℕ → ℕ → ℕ
-or-value none other = other
-or-value (some v) other = v
+unfoldable pub or_value : Option ℕ → ℕ → ℕ
+or_value none other = other
+or_value (some v) other = v
 
 -- S7. Held: the held addresses, rising, each with its value. A record takes the place of an earlier one of its address.
 unfoldable pub put : Setting → List Setting → List Setting
@@ -204,12 +200,12 @@ put (setting a v) (setting b u ∷ rs) =
     cond (ltb a b) (setting a v ∷ setting b u ∷ rs)
     (cond (eqb a b) (setting a v ∷ rs) (setting b u ∷ put (setting a v) rs))
 
-unfoldable pub put-all : List Setting → List Setting → List Setting
-put-all held [] = held
-put-all held (r ∷ rs) = put-all (put r held) rs
+unfoldable pub put_all : List Setting → List Setting → List Setting
+put_all held [] = held
+put_all held (r ∷ rs) = put_all (put r held) rs
 
 unfoldable pub settings : List Page → List Setting
-settings ps = put-all [] (journal ps)
+settings ps = put_all [] (journal ps)
 
 -- addresses rising: each is below those behind it
 unfoldable pub Above : ℕ → List Setting → Type 0
@@ -229,38 +225,38 @@ past true zero = zero
 past true (suc n) = suc (suc n)
 past false n = suc n
 
-unfoldable pub free-slot : List Word → ℕ
-free-slot [] = 0
-free-slot (w ∷ ws) = past (blank w) (free-slot ws)
+unfoldable pub free_slot : List Word → ℕ
+free_slot [] = 0
+free_slot (w ∷ ws) = past (blank w) (free_slot ws)
 
 -- the page at an index, if there is one, and the slots of the active page
-abbrev pub no-page : Page
-no-page = record { state = bad; wear = none; edition = 0; slots = [] }
+abbrev pub no_page : Page
+no_page = record { state = bad; wear = none; edition = 0; slots = [] }
 
-abbrev pub page-at : (index : ℕ) → List Page → Page
-page-at k ps = getD ps k no-page
+abbrev pub page_at : (index : ℕ) → List Page → Page
+page_at k ps = get_or ps k no_page
 
-unfoldable pub active-page : List Page → Page
-active-page ps = page-at (active-index (states ps)) ps
+unfoldable pub active_page : List Page → Page
+active_page ps = page_at (active_index (states ps)) ps
 
-unfoldable pub active-slots : List Page → List Word
-active-slots ps = active-page ps .slots
+unfoldable pub active_slots : List Page → List Word
+active_slots ps = (active_page ps).slots
 
 -- how many slots the active page has from its free one on: so many at least
-unfoldable pub has-room : (slots : ℕ) → List Page → Bool
-has-room n ps = leb (free-slot (active-slots ps) + n) (length (active-slots ps))
+unfoldable pub has_room : (slots : ℕ) → List Page → Bool
+has_room n ps = leb (free_slot (active_slots ps) + n) (length (active_slots ps))
 
 -- S13. Open group: the free slot of the active page stands in a group. Those behind the free slot are blank and do not end one.
-unfoldable pub in-group : Place → Bool
-in-group outside = false
-in-group (inside n rs) = true
-in-group lost = true
+unfoldable pub in_group : Place → Bool
+in_group outside = false
+in_group (inside n rs) = true
+in_group lost = true
 
-abbrev pub end-of : Page → Place
-end-of p = place-behind outside (map (slot (p .edition)) (p .slots))
+abbrev pub end_of : Page → Place
+end_of p = place_behind outside (map (slot p.edition) p.slots)
 
-unfoldable pub open-group : List Page → Bool
-open-group ps = has-room 1 ps && in-group (end-of (active-page ps))
+unfoldable pub open_group : List Page → Bool
+open_group ps = has_room 1 ps && in_group (end_of (active_page ps))
 
 -- how many of a list pass a test
 unfoldable pub count : {A : Type 0} → (A → Bool) → List A → ℕ
@@ -284,9 +280,9 @@ offered k (open₂ o) = nobody
 offered k receiving = nobody
 offered k bad = nobody
 
-unfoldable pub least-worn : (index : ℕ) → List State → Candidate
-least-worn k [] = nobody
-least-worn k (s ∷ ss) = better (offered k s) (least-worn (suc k) ss)
+unfoldable pub least_worn : (index : ℕ) → List State → Candidate
+least_worn k [] = nobody
+least_worn k (s ∷ ss) = better (offered k s) (least_worn (suc k) ss)
 
 unfoldable pub index : Candidate → ℕ
 index nobody = 0

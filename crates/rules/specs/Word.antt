@@ -1,9 +1,6 @@
 -- W: words and their check.
-use Prim.Native.Nat.{ℕ, zero, suc, _+_, _-_, _*_, _/_, _%_}
-use mathlib.Core.Bool.{Bool, cond, _&&_}
-use mathlib.Core.List.{List, [], _∷_}
-use lib.Dec.{eqb, leb}
-use Rattle·rules·specs.specs.Flash.{Step, program, first, second}
+use Rattle.std.specs.Prelude.{ℕ, zero, suc, ◌+◌, ◌-◌, ◌*◌, ◌/◌, ◌%◌, Bool, cond, ◌&&◌, List, [], ◌∷◌, eqb, leb}
+use Rattle.rules.specs.Flash.{Step, program, first, second}
 
 -- W1. Word: four bytes.
 pub data Word : Type 0 where
@@ -27,15 +24,15 @@ unfoldable pub blank : Word → Bool
 blank (word a b c d) = eqb a 255 && (eqb b 255 && (eqb c 255 && eqb d 255))
 
 -- W13. Half-written: neither, and its second half is 65,535.
-unfoldable pub second-blank : Word → Bool
-second-blank (word a b c d) = eqb c 255 && eqb d 255
+unfoldable pub second_blank : Word → Bool
+second_blank (word a b c d) = eqb c 255 && eqb d 255
 
 -- W6. Spoiled: none of these.
 pub data Condition : Type 0 where
   Sound Blank HalfWritten Spoiled : Condition
 
 unfoldable pub condition : Word → Condition
-condition w = cond (sound w) Sound (cond (blank w) Blank (cond (second-blank w) HalfWritten Spoiled))
+condition w = cond (sound w) Sound (cond (blank w) Blank (cond (second_blank w) HalfWritten Spoiled))
 
 -- F1. Image: the numbers that a word's bytes make, low byte first.
 unfoldable pub low16 : Word → ℕ
@@ -52,24 +49,24 @@ unfoldable pub checked : ℕ → ℕ → ℕ → Word
 checked a b c = word a b c (check a b c)
 
 -- W7. Wear word: the wear, then the edition.
-unfoldable pub wear-word : (edition wear : ℕ) → Word
-wear-word edition wear = checked (wear % 256) (wear / 256) edition
+unfoldable pub wear_word : (edition wear : ℕ) → Word
+wear_word edition wear = checked (wear % 256) (wear / 256) edition
 
 -- a number of three bytes, low byte first
-unfoldable pub number-word : ℕ → Word
-number-word n = checked (n % 256) (n / 256 % 256) (n / 65536)
+unfoldable pub number_word : ℕ → Word
+number_word n = checked (n % 256) (n / 256 % 256) (n / 65536)
 
 -- W8. Opening word: order x 4 + kind; kind 1 is plain, kind 2 is receiving.
-unfoldable pub opening-word : (kind order : ℕ) → Word
-opening-word kind order = number-word (order * 4 + kind)
+unfoldable pub opening_word : (kind order : ℕ) → Word
+opening_word kind order = number_word (order * 4 + kind)
 
 -- W9. Done word: order x 4 + 3.
-unfoldable pub done-word : (order : ℕ) → Word
-done-word order = number-word (order * 4 + 3)
+unfoldable pub done_word : (order : ℕ) → Word
+done_word order = number_word (order * 4 + 3)
 
 -- W10. Record: address, value.
-unfoldable pub record-word : (address value : ℕ) → Word
-record-word address value = checked (address % 256) (address / 256) value
+unfoldable pub record_word : (address value : ℕ) → Word
+record_word address value = checked (address % 256) (address / 256) value
 
 -- What a word is in a slot: a record, a mark, or neither, and then blank, half-written or spoiled.
 pub data Slot : Type 0 where
@@ -83,24 +80,24 @@ unfoldable pub mark : (value : ℕ) → Slot
 mark v = cond (eqb v 0) (closes 0) (cond (leb v 8) (opens v) (cond (leb 129 v && leb v 136) (closes (v - 128)) (neither Spoiled)))
 
 -- the editions that have groups
-unfoldable pub has-groups : (edition : ℕ) → Bool
-has-groups edition = leb 2 edition
+unfoldable pub has_groups : (edition : ℕ) → Bool
+has_groups edition = leb 2 edition
 
 -- W11. Address 65,535: in a slot such a word is a mark, and without groups it counts as spoiled.
-unfoldable pub sound-slot : (edition : ℕ) → Word → Slot
-sound-slot edition w =
-    cond (eqb (low16 w) 65535) (cond (has-groups edition) (mark (third w)) (neither Spoiled)) (recorded (low16 w) (third w))
+unfoldable pub sound_slot : (edition : ℕ) → Word → Slot
+sound_slot edition w =
+    cond (eqb (low16 w) 65535) (cond (has_groups edition) (mark (third w)) (neither Spoiled)) (recorded (low16 w) (third w))
 
 unfoldable pub slot : (edition : ℕ) → Word → Slot
-slot edition w = cond (sound w) (sound-slot edition w) (neither (condition w))
+slot edition w = cond (sound w) (sound_slot edition w) (neither (condition w))
 
 -- the mark of a value; it opens, closes or abandons
-abbrev pub mark-word : (value : ℕ) → Word
-mark-word value = record-word 65535 value
+abbrev pub mark_word : (value : ℕ) → Word
+mark_word value = record_word 65535 value
 
 -- W2. How a word is programmed: the first half, then the second. W12. First halves of 65,535: they are a step like any other.
-unfoldable pub word-steps : (page at : ℕ) → Word → List Step
-word-steps p at (word a b c d) = program p at first a b ∷ program p at second c d ∷ []
+unfoldable pub word_steps : (page at : ℕ) → Word → List Step
+word_steps p at (word a b c d) = program p at first a b ∷ program p at second c d ∷ []
 
 -- the words of a list of bytes
 unfoldable pub words : List ℕ → List Word

@@ -1,21 +1,18 @@
 // Steps under an allowance: each function takes how many steps are left, does no more of its own, and gives how many are
 // left then. The image changes through the two functions of crate flash only, one call for each step.
-ghost use mathlib.Core.Path.{_≡_};
-ghost use mathlib.Core.List.{map};
-ghost use Prim.Native.Nat.{_+_, _-_, _*_, _≤_, _<_, max};
-ghost use lib.ListN.{length, take};
-ghost use Rattle·rules.specs.Flash.{AllAllowed, run};
-ghost use Rattle·rules.specs.Page.{word-count, size};
-ghost use Rattle·rules.specs.Word.{word-steps};
-ghost use Rattle·rules.specs.Store.{or-value};
-ghost use Rattle·rules.specs.Steps.{renew, renew-all, greatest-wear, slots-steps, record-of, group, words-of};
-ghost use Rattle·rules.specs.Call.{first-pages, page-in, triples};
-ghost use Rattle·words.specs.Read.{as-word};
-ghost use Rattle·pages.specs.Read.{as-form, Lawful};
-ghost use Rattle·steps·specs.specs.Picked.{picked-steps};
-ghost use Rattle·steps·specs.specs.Copied.{copied};
-use pages::Form;
-use pages::PAGES_MAX;
+ghost use Rattle.std.specs.Prelude.{◌≡◌, map, ◌+◌, ◌-◌, ◌*◌, ◌≤◌, ◌<◌, max, length, take};
+ghost use Rattle.rules.specs.Flash.{AllAllowed, run};
+ghost use Rattle.rules.specs.Page.{word_count, size};
+ghost use Rattle.rules.specs.Word.{word_steps};
+ghost use Rattle.rules.specs.Store.{or_value};
+ghost use Rattle.rules.specs.Steps.{renew, renew_all, greatest_wear, slots_steps, record_of, group, words_of};
+ghost use Rattle.rules.specs.Call.{first_pages, page_in, triples};
+ghost use Rattle.words.specs.Read.{as_word};
+ghost use Rattle.pages.specs.Read.{as_form, Lawful};
+ghost use Rattle.steps.specs.Picked.{picked_steps};
+ghost use Rattle.steps.specs.Copied.{copied};
+
+use pages::{Form, PAGES_MAX};
 use settings::HELD_MAX;
 use words::Word;
 
@@ -28,10 +25,10 @@ pub fn program_word(
     w: Word,
     left: u16,
 ) -> u16
-    requires { ⌜ Lawful form × (page < 32) × (place < word-count (as-form form)) ⌝ }
-    requires { ⌜ AllAllowed (size (as-form form)) (take left (word-steps page place (as-word w))) (now image) ⌝ }
-    ensures { λ r. ⌜ r ≡ left - 2 ⌝ }
-    ensures { λ r. ⌜ now (image .exit) ≡ run (size (as-form form)) (take left (word-steps page place (as-word w))) (now (image .entry)) ⌝ }
+    requires lawful { Lawful form × (page < 32) × (place < word_count (as_form form)) }
+    requires all_allowed { AllAllowed (size (as_form form)) (take left (word_steps page place (as_word w))) image.old }
+    ensures value { result ≡ left - 2 }
+    ensures image_after { image.new ≡ run (size (as_form form)) (take left (word_steps page place (as_word w))) image.old }
 {
     if left == 0 {
         return 0;
@@ -47,9 +44,9 @@ pub fn program_word(
 
 // Erases a page and programs its wear word.
 pub fn renew(image: &mut [u8], form: Form, page: usize, wear: u16, left: u16) -> u16
-    requires { ⌜ Lawful form × (page < 32) × (page * size (as-form form) + size (as-form form) ≤ length (now image)) ⌝ }
-    ensures { λ r. ⌜ r ≡ left - 3 ⌝ }
-    ensures { λ r. ⌜ now (image .exit) ≡ run (size (as-form form)) (take left (renew (form .edition) page wear)) (now (image .entry)) ⌝ }
+    requires { Lawful form × (page < 32) × (page * size (as_form form) + size (as_form form) ≤ length image.old) }
+    ensures value { result ≡ left - 3 }
+    ensures image_after { image.new ≡ run (size (as_form form)) (take left (renew form.edition page wear)) image.old }
 {
     if left == 0 {
         return 0;
@@ -61,8 +58,8 @@ pub fn renew(image: &mut [u8], form: Form, page: usize, wear: u16, left: u16) ->
 
 // Renews the first n pages with wear 1, in index order, all steps of each.
 pub fn renew_all(image: &mut [u8], form: Form, n: usize)
-    requires { ⌜ Lawful form × (n ≤ 32) × (n * size (as-form form) ≤ length (now image)) ⌝ }
-    ensures { λ r. ⌜ now (image .exit) ≡ run (size (as-form form)) (renew-all (form .edition) 0 n) (now (image .entry)) ⌝ }
+    requires { Lawful form × (n ≤ 32) × (n * size (as_form form) ≤ length image.old) }
+    ensures { image.new ≡ run (size (as_form form)) (renew_all form.edition 0 n) image.old }
 {
     let mut i = 0;
     while i < n {
@@ -73,7 +70,7 @@ pub fn renew_all(image: &mut [u8], form: Form, n: usize)
 
 // The greater of two wears.
 fn greater(a: u16, b: u16) -> u16
-    ensures { λ r. ⌜ r ≡ max a b ⌝ }
+    ensures { result ≡ max a b }
 {
     if a < b {
         return b;
@@ -83,8 +80,8 @@ fn greater(a: u16, b: u16) -> u16
 
 // P4. Wear of the page at an index; `other` for a page that has none.
 fn wear_at(image: &[u8], form: Form, page: usize, other: u16) -> u16
-    requires { ⌜ Lawful form × (page < 32) × (page * size (as-form form) + size (as-form form) ≤ length (now image)) ⌝ }
-    ensures { λ r. ⌜ r ≡ or-value (page-in (as-form form) page (now (image .entry)) .wear) other ⌝ }
+    requires { Lawful form × (page < 32) × (page * size (as_form form) + size (as_form form) ≤ length image.now) }
+    ensures { result ≡ or_value (page_in (as_form form) page image.now).wear other }
 {
     let at = form.start(page);
     let end = at + form.size();
@@ -93,8 +90,8 @@ fn wear_at(image: &[u8], form: Form, page: usize, other: u16) -> u16
 
 // The greatest wear of the first n pages, in whatever state they are; 0 if none has one.
 fn greatest_wear(image: &[u8], form: Form, n: usize) -> u16
-    requires { ⌜ Lawful form × (n ≤ 32) × (n * size (as-form form) ≤ length (now image)) ⌝ }
-    ensures { λ r. ⌜ r ≡ greatest-wear (first-pages (as-form form) n (now (image .entry))) ⌝ }
+    requires { Lawful form × (n ≤ 32) × (n * size (as_form form) ≤ length image.now) }
+    ensures { result ≡ greatest_wear (first_pages (as_form form) n image.now) }
 {
     let mut greatest = 0;
     let mut i = 0;
@@ -114,10 +111,10 @@ pub fn renew_picked(
     picks: [bool; PAGES_MAX],
     left: u16,
 ) -> u16
-    requires { ⌜ Lawful form × (n ≤ 32) × (n * size (as-form form) ≤ length (now image)) ⌝ }
-    ensures { λ r. ⌜ r ≡ left - length (picked-steps (as-form form) n picks (now (image .entry))) ⌝ }
-    ensures { λ r. ⌜ now (image .exit) ≡ run (size (as-form form)) (take left (picked-steps (as-form form) n picks (now (image .entry))))
-        (now (image .entry)) ⌝ }
+    requires { Lawful form × (n ≤ 32) × (n * size (as_form form) ≤ length image.old) }
+    ensures value { result ≡ left - length (picked_steps (as_form form) n picks image.old) }
+    ensures image_after { image.new ≡ run (size (as_form form)) (take left (picked_steps (as_form form) n picks image.old))
+        image.old }
 {
     let mut greatest = greatest_wear(image, form, n);
     let mut rest = left;
@@ -142,11 +139,11 @@ pub fn program_records(
     entries: &[u8],
     left: u16,
 ) -> u16
-    requires { ⌜ Lawful form × (page < 32) × (slot ≤ 509) × (slot + length (triples (now entries)) ≤ form .slots) ⌝ }
-    requires { ⌜ AllAllowed (size (as-form form)) (take left (slots-steps page slot (map record-of (triples (now entries))))) (now image) ⌝ }
-    ensures { λ r. ⌜ r ≡ left - length (slots-steps page slot (map record-of (triples (now (entries .entry))))) ⌝ }
-    ensures { λ r. ⌜ now (image .exit) ≡ run (size (as-form form)) (take left (slots-steps page slot (map record-of (triples (now (entries .entry))))))
-        (now (image .entry)) ⌝ }
+    requires lawful { Lawful form × (page < 32) × (slot ≤ 509) × (slot + length (triples entries.now) ≤ form.slots) }
+    requires all_allowed { AllAllowed (size (as_form form)) (take left (slots_steps page slot (map record_of (triples entries.now)))) image.old }
+    ensures value { result ≡ left - length (slots_steps page slot (map record_of (triples entries.now))) }
+    ensures image_after { image.new ≡ run (size (as_form form)) (take left (slots_steps page slot (map record_of (triples entries.now))))
+        image.old }
 {
     let count = entries.len() / 3;
     let mut rest = left;
@@ -171,11 +168,11 @@ pub fn program_group(
     entries: &[u8],
     left: u16,
 ) -> u16
-    requires { ⌜ Lawful form × (page < 32) × (slot ≤ 509) × (slot + length (triples (now entries)) + 2 ≤ form .slots) × (length (triples (now entries)) ≤ 8) ⌝ }
-    requires { ⌜ AllAllowed (size (as-form form)) (take left (slots-steps page slot (words-of (group (triples (now entries)))))) (now image) ⌝ }
-    ensures { λ r. ⌜ r ≡ left - length (slots-steps page slot (words-of (group (triples (now (entries .entry)))))) ⌝ }
-    ensures { λ r. ⌜ now (image .exit) ≡ run (size (as-form form)) (take left (slots-steps page slot (words-of (group (triples (now (entries .entry)))))))
-        (now (image .entry)) ⌝ }
+    requires lawful { Lawful form × (page < 32) × (slot ≤ 509) × (slot + length (triples entries.now) + 2 ≤ form.slots) × (length (triples entries.now) ≤ 8) }
+    requires all_allowed { AllAllowed (size (as_form form)) (take left (slots_steps page slot (words_of (group (triples entries.now))))) image.old }
+    ensures value { result ≡ left - length (slots_steps page slot (words_of (group (triples entries.now)))) }
+    ensures image_after { image.new ≡ run (size (as_form form)) (take left (slots_steps page slot (words_of (group (triples entries.now)))))
+        image.old }
 {
     let n = entries.len() / 3;
     let opened = program_word(image, form, page, 3 + slot, words::mark_word(n as u8), left);
@@ -201,12 +198,12 @@ pub fn copy(
     entries: &[u8],
     left: u16,
 ) -> u16
-    requires { ⌜ Lawful form × (page < 32) × (held ≤ 192) × (length (copied addresses values held (triples (now entries))) ≤ form .slots) ⌝ }
-    requires { ⌜ AllAllowed (size (as-form form)) (take left (slots-steps page 0 (map record-of (copied addresses values held (triples (now entries))))))
-        (now image) ⌝ }
-    ensures { λ r. ⌜ r ≡ left - length (slots-steps page 0 (map record-of (copied addresses values held (triples (now (entries .entry)))))) ⌝ }
-    ensures { λ r. ⌜ now (image .exit) ≡ run (size (as-form form)) (take left (slots-steps page 0 (map record-of (copied addresses values held
-        (triples (now (entries .entry))))))) (now (image .entry)) ⌝ }
+    requires lawful { Lawful form × (page < 32) × (held ≤ 192) × (length (copied addresses values held (triples entries.now)) ≤ form.slots) }
+    requires all_allowed { AllAllowed (size (as_form form)) (take left (slots_steps page 0 (map record_of (copied addresses values held (triples entries.now)))))
+        image.old }
+    ensures value { result ≡ left - length (slots_steps page 0 (map record_of (copied addresses values held (triples entries.now)))) }
+    ensures image_after { image.new ≡ run (size (as_form form)) (take left (slots_steps page 0 (map record_of (copied addresses values held
+        (triples entries.now))))) image.old }
 {
     let mut rest = left;
     let mut slot = 0;

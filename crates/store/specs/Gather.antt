@@ -1,32 +1,28 @@
 -- The records of the used pages, by their places in the line.
-use Prim.Native.Nat.{ℕ, _+_, _*_, _≤_, _<_}
-use mathlib.Core.Path.{_≡_}
-use mathlib.Core.Bool.{Bool}
-use mathlib.Core.List.{List, map}
-use lib.ListN.{length, getD}
-use Rattle·rules.specs.Page.{Form, size}
-use Rattle·rules.specs.Word.{Word, slot}
-use Rattle·rules.specs.Store.{Setting, all-records, free-slot, Place, outside, place-behind, in-group}
-use Rattle·rules.specs.Call.{page-in}
-use Rattle·survey.specs.States.{slots-in}
+use Rattle.std.specs.Prelude.{ℕ, ◌+◌, ◌*◌, ◌≤◌, ◌<◌, ◌≡◌, Bool, List, map, length, get_or}
+use Rattle.rules.specs.Page.{Form, size}
+use Rattle.rules.specs.Word.{Word, slot}
+use Rattle.rules.specs.Store.{Setting, all_records, free_slot, Place, outside, place_behind, in_group}
+use Rattle.rules.specs.Call.{page_in}
+use Rattle.survey.specs.States.{slots_in}
 
 -- the records of the pages at those places of an image
 unfoldable pub gathered : (form : Form) → List ℕ → (places : List ℕ) → List Setting
-gathered f i ks = all-records (map (λ (k : ℕ). page-in f k i) ks)
+gathered f i ks = all_records (map (λ (k : ℕ). page_in f k i) ks)
 
 -- the first `used` of the places are those of pages of the image, and `free` is the free slot of the last one
 pub record Passes (fm : Form) (i line : List ℕ) (used free : ℕ) : Type 0 where
   pub few : used ≤ 32
   pub long : used ≤ length line
-  pub room : 0 < used → free ≤ fm .slot-count
-  pub places : (k : ℕ) → k < used → getD line k 0 < 32
-  pub within : (k : ℕ) → k < used → getD line k 0 * size fm + size fm ≤ length i
-  pub last : (k : ℕ) → k + 1 ≡ used → free ≡ free-slot (slots-in fm (getD line k 0) i)
+  pub room : 0 < used → free ≤ fm.slot_count
+  pub places : (k : ℕ) → k < used → get_or line k 0 < 32
+  pub within : (k : ℕ) → k < used → get_or line k 0 * size fm + size fm ≤ length i
+  pub last : (k : ℕ) → k + 1 ≡ used → free ≡ free_slot (slots_in fm (get_or line k 0) i)
 
 -- where the slot behind these slots stands
 abbrev pub standing : (edition : ℕ) → List Word → Place
-standing e ws = place-behind outside (map (slot e) ws)
+standing e ws = place_behind outside (map (slot e) ws)
 
 -- whether the end of the last of so many pages stands in a group
 unfoldable pub Ends : (form : Form) → (i line : List ℕ) → (pages : ℕ) → Bool → Type 0
-Ends fm i line n grouped = (k : ℕ) → k + 1 ≡ n → grouped ≡ in-group (standing (fm .edition) (slots-in fm (getD line k 0) i))
+Ends fm i line n grouped = (k : ℕ) → k + 1 ≡ n → grouped ≡ in_group (standing fm.edition (slots_in fm (get_or line k 0) i))

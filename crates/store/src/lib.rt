@@ -1,24 +1,16 @@
 // The store in an image: the one look that serves a call, at the headers of all pages and at the slots of the used ones.
-use pages::Form;
-use pages::PAGES_MAX;
-use settings::HELD_MAX;
-use settings::Passed;
-use survey::DAMAGED;
-use survey::Look;
-use survey::OK;
-ghost use mathlib.Core.Path.{_≡_};
-ghost use mathlib.Core.List.{[]};
-ghost use Prim.Native.Nat.{_+_, _*_, _≤_};
-ghost use lib.ListN.{length, take};
-ghost use mathlib.Core.Bool.{_&&_};
-ghost use lib.Dec.{leb};
-ghost use Rattle·rules.specs.Store.{put-all, records, in-group};
-ghost use Rattle·rules.specs.Page.{size};
-ghost use Rattle·pages.specs.Read.{as-form, Lawful};
-ghost use Rattle·survey.specs.States.{slots-in};
-ghost use Rattle·settings.specs.Held.{Holds, Become};
-ghost use Rattle·store·specs.specs.Gather.{gathered, Passes, standing, Ends};
-ghost use Rattle·store·specs.specs.Opened.{with-held, Opens};
+ghost use Rattle.std.specs.Prelude.{◌≡◌, [], ◌+◌, ◌*◌, ◌≤◌, length, take, ◌&&◌, leb};
+ghost use Rattle.rules.specs.Store.{put_all, records, in_group};
+ghost use Rattle.rules.specs.Page.{size};
+ghost use Rattle.pages.specs.Read.{as_form, Lawful};
+ghost use Rattle.survey.specs.States.{slots_in};
+ghost use Rattle.settings.specs.Held.{Holds, Become};
+ghost use Rattle.store.specs.Gather.{gathered, Passes, standing, Ends};
+ghost use Rattle.store.specs.Opened.{with_held, Opens};
+
+use pages::{Form, PAGES_MAX};
+use settings::{HELD_MAX, Passed};
+use survey::{DAMAGED, Look, OK};
 
 // The records that count of the first n slots of a page put in, the first slot first; and whether the slot behind them stands in a
 // group.
@@ -31,10 +23,10 @@ fn put_page(
     values: &mut [u8; HELD_MAX],
     held: usize,
 ) -> Passed
-    requires { ⌜ Lawful form × (page ≤ 32) × (n ≤ form .slots) × (page * size (as-form form) + size (as-form form) ≤ length (now image)) ⌝ }
-    ensures { λ r. ⌜ Become (λ t. put-all t (records (form .edition) (take n (slots-in (as-form form) page (now (image .entry))))))
-        (now (addresses .entry)) (now (values .entry)) held (now (addresses .exit)) (now (values .exit)) (r .held) ⌝ }
-    ensures { λ r. ⌜ r .group ≡ in-group (standing (form .edition) (take n (slots-in (as-form form) page (now (image .entry))))) ⌝ }
+    requires { Lawful form × (page ≤ 32) × (n ≤ form.slots) × (page * size (as_form form) + size (as_form form) ≤ length image.now) }
+    ensures fact { Become (λ t. put_all t (records form.edition (take n (slots_in (as_form form) page image.now))))
+        addresses.old values.old held addresses.new values.new result.held }
+    ensures group_value { result.group ≡ in_group (standing form.edition (take n (slots_in (as_form form) page image.now))) }
 {
     settings::put_slots(
         survey::slots_of(image, form, page, n),
@@ -57,12 +49,12 @@ fn gather(
     addresses: &mut [u16; HELD_MAX],
     values: &mut [u8; HELD_MAX],
 ) -> Passed
-    requires { ⌜ Lawful form ⌝ }
-    requires { ⌜ Passes (as-form form) (now image) (now line) used free ⌝ }
-    requires { ⌜ Holds (now addresses) (now values) 0 [] ⌝ }
-    ensures { λ r. ⌜ Holds (now (addresses .exit)) (now (values .exit)) (r .held)
-        (put-all [] (gathered (as-form form) (now (image .entry)) (take used (now (line .entry))))) ⌝ }
-    ensures { λ r. ⌜ Ends (as-form form) (now (image .entry)) (now (line .entry)) used (r .group) ⌝ }
+    requires lawful { Lawful form }
+    requires passes { Passes (as_form form) image.now line.now used free }
+    requires holds { Holds addresses.old values.old 0 [] }
+    ensures holds_2 { Holds addresses.new values.new result.held
+        (put_all [] (gathered (as_form form) image.now (take used line.now))) }
+    ensures ends { Ends (as_form form) image.now line.now used result.group }
 {
     let mut held = 0;
     let mut group = false;
@@ -82,7 +74,7 @@ fn gather(
 
 // The answer 0 to 3 of the pages and of the number held.
 fn number_of(number: u8, held: usize) -> u8
-    ensures { λ r. ⌜ r ≡ with-held number held ⌝ }
+    ensures { result ≡ with_held number held }
 {
     if number != OK {
         return number;
@@ -95,7 +87,7 @@ fn number_of(number: u8, held: usize) -> u8
 
 // S13. Open group: whether there is a free slot, and it stands in a group.
 fn is_open(free: usize, slots: usize, group: bool) -> bool
-    ensures { λ r. ⌜ r ≡ (leb (free + 1) slots && group) ⌝ }
+    ensures { result ≡ (leb (free + 1) slots && group) }
 {
     if free < slots {
         return group;
@@ -104,6 +96,7 @@ fn is_open(free: usize, slots: usize, group: bool) -> bool
 }
 
 // The answer 0 to 3, how many addresses are held, whether a group is open, and the look at the pages.
+#[derive(Drop)]
 pub struct Store {
     pub number: u8,
     pub held: usize,
@@ -118,9 +111,9 @@ pub fn open(
     addresses: &mut [u16; HELD_MAX],
     values: &mut [u8; HELD_MAX],
 ) -> Store
-    requires { ⌜ Lawful form ⌝ }
-    requires { ⌜ Holds (now addresses) (now values) 0 [] ⌝ }
-    ensures { λ r. ⌜ Opens (as-form form) (now (image .entry)) r (now (addresses .exit)) (now (values .exit)) ⌝ }
+    requires lawful { Lawful form }
+    requires holds { Holds addresses.old values.old 0 [] }
+    ensures { Opens (as_form form) image.now result addresses.new values.new }
 {
     let look = survey::look_at(image, form);
     let line = look.line;

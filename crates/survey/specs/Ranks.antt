@@ -1,11 +1,9 @@
 -- What is kept of each page: its rank, the order + 1 of a used page, and its spare, the wear + 1 of a cleared one; each is 0 of
 -- any other page. They stand in arrays of 32 places.
-use Prim.Native.Nat.{ℕ, _+_}
-use mathlib.Core.Bool.{cond}
-use mathlib.Core.List.{List, map}
-use Rattle·rules.specs.Page.{State, cleared, open₁, open₂, receiving, bad}
-use Rattle·rules.specs.Store.{used, order}
-use Rattle·survey·specs.specs.States.{padded}
+use Rattle.std.specs.Prelude.{ℕ, ◌+◌, cond, List, map}
+use Rattle.rules.specs.Page.{State, cleared, open₁, open₂, receiving, bad}
+use Rattle.rules.specs.Store.{used, order}
+use Rattle.survey.specs.States.{padded}
 
 unfoldable pub rank : (base : ℕ) → State → ℕ
 rank b s = cond (used b s) (order s + 1) 0

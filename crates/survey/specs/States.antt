@@ -1,39 +1,34 @@
 -- The pages of an image as the code meets them: their number, their states in an array of 32 places, the slots of one of them.
-use Prim.Native.Nat.{ℕ, _-_, _*_, _≤_, _<_}
-use mathlib.Core.Path.{_≡_}
-use mathlib.Core.Logic.{_⊎_}
-use mathlib.Core.Bool.{true, cond}
-use mathlib.Core.List.{List, [], _∷_, _++_}
-use mathlib.Core.Option.{some}
-use lib.ListN.{length, replicate}
-use Rattle·rules.specs.Word.{Word}
-use Rattle·rules.specs.Page.{Form, size, Chip, in-edition, State, slots}
-use Rattle·rules.specs.Store.{states, order}
-use Rattle·rules.specs.Call.{form-of, page-count, wrong-size, first-pages, page-in}
-use Rattle·rules.specs.Named.{chip-of}
-use Rattle·pages.specs.Read.{as-form, Lawful}
-use Rattle·survey·specs.specs.declared.Sized.{Sized}
-use Rattle·survey·specs.specs.declared.Sized.the-variants.{Right, Wrong}
+use Rattle.std.specs.Prelude.{ℕ, ◌-◌, ◌*◌, ◌≤◌, ◌<◌, ◌≡◌, ◌⊎◌, true, cond, List, [], ◌∷◌, ◌++◌, length, replicate}
+use Rattle.std.proofs.Math.Option.{some}
+use Rattle.rules.specs.Word.{Word}
+use Rattle.rules.specs.Page.{Form, size, Chip, in_edition, State, slots}
+use Rattle.rules.specs.Store.{states, order}
+use Rattle.rules.specs.Call.{form_of, page_count, wrong_size, first_pages, page_in}
+use Rattle.rules.specs.Named.{chip_of}
+use Rattle.pages.specs.Read.{as_form, Lawful}
+use Rattle.survey.specs.declared.Sized.{Sized}
+use Rattle.survey.specs.declared.Sized.TheVariants.{Right, Wrong}
 
 -- The number r of an image's pages, 0 if its size is wrong.
 pub record Counted (fm : Form) (i : List ℕ) (r : ℕ) : Type 0 where
-  pub count : r ≡ cond (wrong-size fm i) 0 (page-count fm i)
+  pub count : r ≡ cond (wrong_size fm i) 0 (page_count fm i)
   pub most : r ≤ 32
   pub within : r * size fm ≤ length i
   pub whole : (r ≡ 0) ⊎ ((length i ≡ r * size fm) × (2 ≤ r))
 
 -- The form by which an image is read on a chip, if its size is right there; and at a page size, if that names a chip.
 abbrev pub SizedOn : Chip → List ℕ → Sized → Type 0
-SizedOn c i (Right form) = (as-form form ≡ form-of c i) × Lawful form
-SizedOn c i Wrong = (edition : ℕ) → wrong-size (in-edition c edition) i ≡ true
+SizedOn c i (Right form) = (as_form form ≡ form_of c i) × Lawful form
+SizedOn c i Wrong = (edition : ℕ) → wrong_size (in_edition c edition) i ≡ true
 
-abbrev pub SizedAt : (page-size : ℕ) → List ℕ → Sized → Type 0
-SizedAt n i (Right form) = (c : Chip) × (chip-of n ≡ some c) × SizedOn c i (Right form)
-SizedAt n i Wrong = (c : Chip) → chip-of n ≡ some c → SizedOn c i Wrong
+abbrev pub SizedAt : (page_size : ℕ) → List ℕ → Sized → Type 0
+SizedAt n i (Right form) = (c : Chip) × (chip_of n ≡ some c) × SizedOn c i (Right form)
+SizedAt n i Wrong = (c : Chip) → chip_of n ≡ some c → SizedOn c i Wrong
 
 -- the states of the first n pages of an image
-unfoldable pub first-states : (form : Form) (n : ℕ) → List ℕ → List State
-first-states f n i = states (first-pages f n i)
+unfoldable pub first_states : (form : Form) (n : ℕ) → List ℕ → List State
+first_states f n i = states (first_pages f n i)
 
 -- a list in an array: the places that are left of 32 have one thing
 unfoldable pub padded : {A : Type 0} (blank : A) → List A → List A
@@ -45,5 +40,5 @@ OrdersFit [] = Unit {0}
 OrdersFit (s ∷ ss) = (order s < 4194304) × OrdersFit ss
 
 -- the slots of the page at an index of the image
-unfoldable pub slots-in : (form : Form) (index : ℕ) → List ℕ → List Word
-slots-in f k i = page-in f k i .slots
+unfoldable pub slots_in : (form : Form) (index : ℕ) → List ℕ → List Word
+slots_in f k i = (page_in f k i).slots

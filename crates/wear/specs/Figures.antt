@@ -1,18 +1,16 @@
 -- The figures of docs/WEAR.md: how many changes flash lasts at least that is rated for 10,000 erases of a page.
-use Prim.Native.Nat.{ℕ}
-use mathlib.Core.Path.{_≡_}
-use mathlib.Core.List.{List, [], _∷_, map}
-use Rattle·wear·specs.specs.Wear.{changes-rated}
+use Rattle.std.specs.Prelude.{ℕ, ◌≡◌, List, [], ◌∷◌, map}
+use Rattle.wear.specs.Wear.{changes_rated}
 
 -- a store of so many pages, with so many slots each, in which at most so many are held; and how many changes it lasts
 pub data Figure : Type 0 where
   figure : (pages slots held changes : ℕ) → Figure
 
-abbrev pub as-printed : Figure → ℕ
-as-printed (figure n s h changes) = changes
+abbrev pub as_printed : Figure → ℕ
+as_printed (figure n s h changes) = changes
 
-abbrev pub as-computed : (rated : ℕ) → Figure → ℕ
-as-computed r (figure n s h changes) = changes-rated n s h r
+abbrev pub as_computed : (rated : ℕ) → Figure → ℕ
+as_computed r (figure n s h changes) = changes_rated n s h r
 
 abbrev pub figures : List Figure
 figures =
@@ -48,5 +46,5 @@ figures =
     ∷ figure 32 509 192 160899527
     ∷ []
 
-abbrev pub the-figures-are-right : Type 0
-the-figures-are-right = map as-printed figures ≡ map (as-computed 10000) figures
+abbrev pub the_figures_are_right : Type 0
+the_figures_are_right = map as_printed figures ≡ map (as_computed 10000) figures

@@ -1,183 +1,183 @@
 -- Renewals by which pages are picked, and recovery in the terms of the code. Assumes nothing.
-use Prim.Native.Nat.{ℕ, suc, _+_, _*_, _≤_, _<_, min, max}
-use mathlib.Core.Path.{_≡_, refl, sym, ap, _∙_, subst}
+use Prim.Native.Nat.{ℕ, suc, ◌+◌, ◌*◌, ◌≤◌, ◌<◌, min, max}
+use mathlib.Core.Path.{◌≡◌, refl, sym, ap, ◌∙◌, subst}
 use mathlib.Core.Bool.{Bool, true, false, cond}
-use mathlib.Core.List.{List, [], _∷_, _++_}
+use mathlib.Core.List.{List, [], ◌∷◌, ◌++◌}
 use native.Mathlib.Omega.{arith}
-use lib.ListN.{length, getD, take, length-take, length-append}
+use lib.ListN.{length, get_or, take, length-take, length-append}
 use lib.Dec.{leb}
-use Rattle·rules.specs.Flash.{Step, run, AllAllowed}
-use Rattle·rules.specs.Word.{mark-word}
-use Rattle·rules.specs.Page.{Form, word-count, size, State, bad, Page}
-use Rattle·rules.specs.Store.{states, base, used, count, is-active, index-of, active-order, active-index, open-group}
-use Rattle·rules.specs.Steps.{renewed-wear, greatest-wear, renewals, renew-each, renew-picked, unclean}
-use Rattle·rules.specs.Steps.{slots-steps, abandon-steps, recovery-steps}
-use Rattle·rules.specs.Call.{Roomy, first-pages, pages, store-number, recover}
-use Rattle·rules.proofs.Truth.{by-cases, and-left}
-use Rattle·rules.proofs.Plans.{allowed-take}
-use Rattle·rules.proofs.Stores.{length-states}
-use Rattle·rules.proofs.Healthy.{accepted-healthy, recovery-allowed}
-use Rattle·rules.proofs.Ready.{size-right, right-sizes, Sizes, active-within}
-use Rattle·rules.proofs.Answers.{stepped-refused, stepped-done}
-use Rattle·rules.proofs.Cut.{pages-long}
-use Rattle·rules.proofs.Lengths.{each-long, slots-long}
-use Rattle·survey.specs.declared.Look.{Look}
-use Rattle·survey.specs.Ranks.{ranks, spares}
-use Rattle·survey.specs.Look.{Told}
-use Rattle·steps.specs.Picked.{picked-steps}
-use Rattle·choosing.proofs.Ways.{open-slot}
-use Rattle·writing·specs.specs.Picks.{picked, neither-at}
-use Rattle·writing·specs.specs.Plans.{Part}
-use Rattle·writing·proofs.proofs.Picks.{unclean-pick}
-use Rattle·writing·proofs.proofs.Parts.{part-first, part-then}
-use Rattle·writing·proofs.proofs.Kept.{OnPage, on-take, on-slots, renewing-kept}
+use Rattle.rules.specs.Flash.{Step, run, AllAllowed}
+use Rattle.rules.specs.Word.{mark_word}
+use Rattle.rules.specs.Page.{Form, word_count, size, State, bad, Page}
+use Rattle.rules.specs.Store.{states, base, used, count, is_active, index_of, active_order, active_index, open_group}
+use Rattle.rules.specs.Steps.{renewed_wear, greatest_wear, renewals, renew_each, renew_picked, unclean}
+use Rattle.rules.specs.Steps.{slots_steps, abandon_steps, recovery_steps}
+use Rattle.rules.specs.Call.{Roomy, first_pages, pages, store_number, recover}
+use Rattle.rules.proofs.Truth.{by_cases, and_left}
+use Rattle.rules.proofs.Plans.{allowed_take}
+use Rattle.rules.proofs.Stores.{length_states}
+use Rattle.rules.proofs.Healthy.{accepted_healthy, recovery_allowed}
+use Rattle.rules.proofs.Ready.{size_right, right_sizes, Sizes, active_within}
+use Rattle.rules.proofs.Answers.{stepped_refused, stepped_done}
+use Rattle.rules.proofs.Cut.{pages_long}
+use Rattle.rules.proofs.Lengths.{each_long, slots_long}
+use Rattle.survey.specs.declared.Look.{Look}
+use Rattle.survey.specs.Ranks.{ranks, spares}
+use Rattle.survey.specs.Look.{Told}
+use Rattle.steps.specs.Picked.{picked_steps}
+use Rattle.choosing.proofs.Ways.{open_slot}
+use Rattle.writing.specs.Picks.{picked, neither_at}
+use Rattle.writing.specs.Plans.{Part}
+use Rattle.writing.proofs.Picks.{unclean_pick}
+use Rattle.writing.proofs.Parts.{part_first, part_then}
+use Rattle.writing.proofs.Kept.{OnPage, on_take, on_slots, renewing_kept}
 
 -- ---- renewals, by which pages are picked
 
 -- two tests that agree on the pages there are pick the same
-pub renewals-agree : (p q : ℕ → State → Bool) (g k : ℕ) (ps : List Page)
-    → ((j : ℕ) → j < length ps → p (k + j) (getD (states ps) j bad) ≡ q (k + j) (getD (states ps) j bad)) → renewals p g k ps ≡ renewals q g k ps
+pub renewals_agree : (p q : ℕ → State → Bool) (g k : ℕ) (ps : List Page)
+    → ((j : ℕ) → j < length ps → p (k + j) (get_or (states ps) j bad) ≡ q (k + j) (get_or (states ps) j bad)) → renewals p g k ps ≡ renewals q g k ps
 unfolding renewals states
-renewals-agree p q g k [] h = refl
-renewals-agree p q g k (x ∷ ps) h =
+renewals_agree p q g k [] h = refl
+renewals_agree p q g k (x ∷ ps) h =
     let first : k + 0 ≡ k = omega arith in
     let next : (j : ℕ) → k + suc j ≡ suc k + j = λ j. omega arith in
     let agree : (s : State) (m : ℕ) → Type 0 = λ s m. p m s ≡ q m s in
-    let here : p k (x .state) ≡ q k (x .state) = subst (agree (x .state)) first (h 0 (omega arith)) in
+    let here : p k x.state ≡ q k x.state = subst (agree x.state) first (h 0 (omega arith)) in
     let rest : (m : ℕ) → renewals p m (suc k) ps ≡ renewals q m (suc k) ps =
-    λ m. renewals-agree p q m (suc k) ps (λ j l. subst (agree (getD (states ps) j bad)) (next j) (h (suc j) (omega arith))) in
-    rw (here, rest g, rest (max g (renewed-wear g (x .wear))))
+    λ m. renewals_agree p q m (suc k) ps (λ j l. subst (agree (get_or (states ps) j bad)) (next j) (h (suc j) (omega arith))) in
+    rw (here, rest g, rest (max g (renewed_wear g x.wear)))
 
-pub picked-agree : (edition : ℕ) (p q : ℕ → State → Bool) (ps : List Page)
-    → ((j : ℕ) → j < length ps → p j (getD (states ps) j bad) ≡ q j (getD (states ps) j bad)) → renew-picked edition p ps ≡ renew-picked edition q ps
-unfolding renew-picked
-picked-agree edition p q ps h =
+pub picked_agree : (edition : ℕ) (p q : ℕ → State → Bool) (ps : List Page)
+    → ((j : ℕ) → j < length ps → p j (get_or (states ps) j bad) ≡ q j (get_or (states ps) j bad)) → renew_picked edition p ps ≡ renew_picked edition q ps
+unfolding renew_picked
+picked_agree edition p q ps h =
     let z : (j : ℕ) → j ≡ 0 + j = λ j. omega arith in
-    ap (renew-each edition) (renewals-agree p q (greatest-wear ps) 0 ps
-    (λ j l. subst (λ (m : ℕ). p m (getD (states ps) j bad) ≡ q m (getD (states ps) j bad)) (z j) (h j l)))
+    ap (renew_each edition) (renewals_agree p q (greatest_wear ps) 0 ps
+    (λ j l. subst (λ (m : ℕ). p m (get_or (states ps) j bad) ≡ q m (get_or (states ps) j bad)) (z j) (h j l)))
 
 -- as many as pass the test
-renewals-count : (test : State → Bool) (g k : ℕ) (ps : List Page) → length (renewals (λ j s. test s) g k ps) ≡ count test (states ps)
+renewals_count : (test : State → Bool) (g k : ℕ) (ps : List Page) → length (renewals (λ j s. test s) g k ps) ≡ count test (states ps)
 unfolding renewals states count
-renewals-count test g k [] = refl
-renewals-count test g k (x ∷ ps) =
-    by-cases (test (x .state))
-    (λ t. let rest = renewals-count test (max g (renewed-wear g (x .wear))) (suc k) ps in rw t (omega arith))
-    (λ t. let rest = renewals-count test g (suc k) ps in rw t (omega arith))
+renewals_count test g k [] = refl
+renewals_count test g k (x ∷ ps) =
+    by_cases (test x.state)
+    (λ t. let rest = renewals_count test (max g (renewed_wear g x.wear)) (suc k) ps in rw t (omega arith))
+    (λ t. let rest = renewals_count test g (suc k) ps in rw t (omega arith))
 
 -- ---- the active page
 
-index-there : (test : State → Bool) (ss : List State) → index-of test ss < length ss → test (getD ss (index-of test ss) bad) ≡ true
-unfolding index-of
-index-there test [] l = absurd (omega arith)
-index-there test (s ∷ ss) l =
-    by-cases (test s) (λ e. rw e e) (λ e. let l′ : suc (index-of test ss) < suc (length ss) = rw e at l in rw e (index-there test ss (omega arith)))
+index_there : (test : State → Bool) (ss : List State) → index_of test ss < length ss → test (get_or ss (index_of test ss) bad) ≡ true
+unfolding index_of
+index_there test [] l = absurd (omega arith)
+index_there test (s ∷ ss) l =
+    by_cases (test s) (λ e. rw e e) (λ e. let l' : suc (index_of test ss) < suc (length ss) = rw e at l in rw e (index_there test ss (omega arith)))
 
-active-clean : (b o : ℕ) (s : State) → is-active b o s ≡ true → unclean b s ≡ false
-unfolding is-active unclean
-active-clean b o s h = rw (and-left (used b s) _ h)
+active_clean : (b o : ℕ) (s : State) → is_active b o s ≡ true → unclean b s ≡ false
+unfolding is_active unclean
+active_clean b o s h = rw (and_left (used b s) _ h)
 
 -- ---- by what the look told
 
-module _ {fm : Form} {i : List ℕ} {look : Look} (t : Told fm i look) (ok : store-number fm i ≡ 0) where
+module _ {fm : Form} {i : List ℕ} {look : Look} (t : Told fm i look) (ok : store_number fm i ≡ 0) where
   abbrev all : List State
   all = states (pages fm i)
 
   sizes : Sizes fm i
-  sizes = right-sizes fm i (size-right fm i ok)
+  sizes = right_sizes fm i (size_right fm i ok)
 
-  pub look-few : look .count ≤ 32
-  look-few = omega (arith, t .counts, sizes .most)
+  pub look_few : look.count ≤ 32
+  look_few = omega (arith, t.counts, sizes.most)
 
-  pub look-within : look .count * size fm ≤ length i
-  look-within = rw (t .counts) (omega (arith, sizes .sized))
+  pub look_within : look.count * size fm ≤ length i
+  look_within = rw t.counts (omega (arith, sizes.sized))
 
-  pub active-32 : look .active < 32
-  active-32 = omega (arith, t .active, active-within fm i ok, sizes .most)
+  pub active_32 : look.active < 32
+  active_32 = omega (arith, t.active, active_within fm i ok, sizes.most)
 
-  module _ (picks : List Bool) (e : picks ≡ picked (neither-at (look .ranks) (look .spares)) (look .count)) where
+  module _ (picks : List Bool) (e : picks ≡ picked (neither_at look.ranks look.spares) look.count) where
     -- the pages that are picked are the unclean ones
-    pick-is : (k : ℕ) → k < look .count → getD picks k false ≡ unclean (base all) (getD all k bad)
-    pick-is k l =
-        let of : (rs ss : List ℕ) → List Bool = λ rs ss. picked (neither-at rs ss) (look .count) in
+    pick_is : (k : ℕ) → k < look.count → get_or picks k false ≡ unclean (base all) (get_or all k bad)
+    pick_is k l =
+        let of : (rs ss : List ℕ) → List Bool = λ rs ss. picked (neither_at rs ss) look.count in
         let told : picks ≡ of (ranks (base all) all) (spares all) =
-        e ∙ ap (λ (rs : List ℕ). of rs (look .spares)) (t .ranked) ∙ ap (λ (ss : List ℕ). of (ranks (base all) all) ss) (t .spared) in
-        ap (λ (xs : List Bool). getD xs k false) told ∙ unclean-pick (base all) all (look .count) k l
+        e ∙ ap (λ (rs : List ℕ). of rs look.spares) t.ranked ∙ ap (λ (ss : List ℕ). of (ranks (base all) all) ss) t.spared in
+        ap (λ (xs : List Bool). get_or xs k false) told ∙ unclean_pick (base all) all look.count k l
 
-    renewals-are : picked-steps fm (look .count) picks i ≡ renew-picked (fm .edition) (λ k s. unclean (base all) s) (pages fm i)
-    unfolding picked-steps pages
-    renewals-are =
-        ap (λ (m : ℕ). renew-picked (fm .edition) (λ k s. getD picks k false) (first-pages fm m i)) (t .counts)
-        ∙ picked-agree (fm .edition) (λ k s. getD picks k false) (λ k s. unclean (base all) s) (pages fm i)
-        (λ j g. pick-is j (omega (arith, pages-long fm i, t .counts)))
+    renewals_are : picked_steps fm look.count picks i ≡ renew_picked fm.edition (λ k s. unclean (base all) s) (pages fm i)
+    unfolding picked_steps pages
+    renewals_are =
+        ap (λ (m : ℕ). renew_picked fm.edition (λ k s. get_or picks k false) (first_pages fm m i)) t.counts
+        ∙ picked_agree fm.edition (λ k s. get_or picks k false) (λ k s. unclean (base all) s) (pages fm i)
+        (λ j g. pick_is j (omega (arith, pages_long fm i, t.counts)))
 
-    renewals-long : length (picked-steps fm (look .count) picks i) ≡ 3 * count (unclean (base all)) all
-    unfolding renew-picked
-    renewals-long =
-        let greatest = greatest-wear (pages fm i) in
-        ap length renewals-are ∙ each-long (fm .edition) (renewals (λ k s. unclean (base all) s) greatest 0 (pages fm i))
-        ∙ ap (λ (m : ℕ). 3 * m) (renewals-count (unclean (base all)) greatest 0 (pages fm i))
+    renewals_long : length (picked_steps fm look.count picks i) ≡ 3 * count (unclean (base all)) all
+    unfolding renew_picked
+    renewals_long =
+        let greatest = greatest_wear (pages fm i) in
+        ap length renewals_are ∙ each_long fm.edition (renewals (λ k s. unclean (base all) s) greatest 0 (pages fm i))
+        ∙ ap (λ (m : ℕ). 3 * m) (renewals_count (unclean (base all)) greatest 0 (pages fm i))
 
     -- the active page is used, and so not among them
-    active-few : look .active < look .count
-    active-few = omega (arith, t .active, t .counts, active-within fm i ok)
+    active_few : look.active < look.count
+    active_few = omega (arith, t.active, t.counts, active_within fm i ok)
 
-    active-out : getD picks (look .active) false ≡ false
-    unfolding active-index
-    active-out =
+    active_out : get_or picks look.active false ≡ false
+    unfolding active_index
+    active_out =
         let b = base all in
-        let o = active-order all in
-        let there = index-there (is-active b o) all (omega (arith, active-within fm i ok, length-states (pages fm i), pages-long fm i)) in
-        pick-is (look .active) active-few ∙ ap (λ (k : ℕ). unclean b (getD all k bad)) (t .active) ∙ active-clean b o (getD all (active-index all) bad) there
+        let o = active_order all in
+        let there = index_there (is_active b o) all (omega (arith, active_within fm i ok, length_states (pages fm i), pages_long fm i)) in
+        pick_is look.active active_few ∙ ap (λ (k : ℕ). unclean b (get_or all k bad)) t.active ∙ active_clean b o (get_or all (active_index all) bad) there
 
     -- ---- an open group is abandoned, and then they are renewed
 
-    module _ (g : Bool) (is : g ≡ open-group (pages fm i)) where
+    module _ (g : Bool) (is : g ≡ open_group (pages fm i)) where
       abbrev mark : List Step
-      mark = cond g (slots-steps (look .active) (look .free) (mark-word 0 ∷ [])) []
+      mark = cond g (slots_steps look.active look.free (mark_word 0 ∷ [])) []
 
-      mark-is : mark ≡ abandon-steps (pages fm i)
-      unfolding abandon-steps
-      mark-is = rw (is, t .active, t .free)
+      mark_is : mark ≡ abandon_steps (pages fm i)
+      unfolding abandon_steps
+      mark_is = rw (is, t.active, t.free)
 
-      pub mark-slot : g ≡ true → look .free < fm .slot-count
-      mark-slot e = open-slot t ok (sym is ∙ e)
+      pub mark_slot : g ≡ true → look.free < fm.slot_count
+      mark_slot e = open_slot t ok (sym is ∙ e)
 
-      pub mark-ready : Roomy fm → (allowance : ℕ) → AllAllowed (size fm) (take allowance mark) i
-      unfolding recovery-steps
-      mark-ready roomy n =
-          let all-may = recovery-allowed (accepted-healthy fm roomy ⊥ i ok (λ z. absurd z)) in
-          rw mark-is (part-first (size fm) n (abandon-steps (pages fm i)) _ i (allowed-take (size fm) n (recovery-steps (fm .edition) (pages fm i)) i all-may))
+      pub mark_ready : Roomy fm → (allowance : ℕ) → AllAllowed (size fm) (take allowance mark) i
+      unfolding recovery_steps
+      mark_ready roomy n =
+          let all_may = recovery_allowed (accepted_healthy fm roomy ⊥ i ok (λ z. absurd z)) in
+          rw mark_is (part_first (size fm) n (abandon_steps (pages fm i)) _ i (allowed_take (size fm) n (recovery_steps fm.edition (pages fm i)) i all_may))
 
-      mark-long : length mark ≡ cond g 2 0
-      mark-long =
-          by-cases g (λ e. rw e (slots-long (look .active) (look .free) (mark-word 0 ∷ []))) (λ e. rw e)
+      mark_long : length mark ≡ cond g 2 0
+      mark_long =
+          by_cases g (λ e. rw e (slots_long look.active look.free (mark_word 0 ∷ []))) (λ e. rw e)
 
-      on-mark : OnPage (word-count fm) (look .active) mark
+      on_mark : OnPage (word_count fm) look.active mark
       unfolding OnPage
-      on-mark =
-          by-cases g (λ e. let l = mark-slot e in rw e (on-slots (word-count fm) (look .active) (look .free) (mark-word 0 ∷ []) (omega arith)))
+      on_mark =
+          by_cases g (λ e. let l = mark_slot e in rw e (on_slots (word_count fm) look.active look.free (mark_word 0 ∷ []) (omega arith)))
           (λ e. rw e tt)
 
       pub recovered : (total : ℕ) {allowance left : ℕ} {j k : List ℕ} → total ≡ cond g 2 0 + 3 * count (unclean (base all)) all
-          → Part fm allowance mark i j left → k ≡ run (size fm) (take left (picked-steps fm (look .count) picks j)) j
+          → Part fm allowance mark i j left → k ≡ run (size fm) (take left (picked_steps fm look.count picks j)) j
           → recover fm allowance i ≡ record { number = 0; steps = min allowance total; finished = leb total allowance; image = k }
-      unfolding recover recovery-steps picked-steps
+      unfolding recover recovery_steps picked_steps
       recovered total {allowance} {left} {j} {k} n marked e =
-          let plan = recovery-steps (fm .edition) (pages fm i) in
-          let renewing = picked-steps fm (look .count) picks in
-          let sized : length i ≡ look .count * size fm = rw (t .counts) (sizes .sized) in
+          let plan = recovery_steps fm.edition (pages fm i) in
+          let renewing = picked_steps fm look.count picks in
+          let sized : length i ≡ look.count * size fm = rw t.counts sizes.sized in
           let same : renewing j ≡ renewing i =
-          ap renewing (marked .image)
-          ∙ renewing-kept fm (look .count) (look .active) active-few (λ m. getD picks m false) active-out (take allowance mark) i
-          (on-take (word-count fm) (look .active) allowance mark on-mark) sized in
-          let whole : mark ++ renewing j ≡ plan = rw (mark-is, same) (ap (λ (ss : List Step). abandon-steps (pages fm i) ++ ss) renewals-are) in
-          let all-done = part-then marked (record { image = e; left = refl }) in
+          ap renewing marked.image
+          ∙ renewing_kept fm look.count look.active active_few (λ m. get_or picks m false) active_out (take allowance mark) i
+          (on_take (word_count fm) look.active allowance mark on_mark) sized in
+          let whole : mark ++ renewing j ≡ plan = rw (mark_is, same) (ap (λ (ss : List Step). abandon_steps (pages fm i) ++ ss) renewals_are) in
+          let all_done = part_then marked (record { image = e; left = refl }) in
           let long : length plan ≡ total =
-          sym (ap length whole) ∙ length-append mark (renewing j) ∙ (let a = mark-long in let b = ap length same in let d = renewals-long in omega arith) in
-          stepped-done fm (store-number fm i) allowance plan i ok ∙ rw (length-take allowance plan, long, ← whole) (rw (all-done .image))
+          sym (ap length whole) ∙ length-append mark (renewing j) ∙ (let a = mark_long in let b = ap length same in let d = renewals_long in omega arith) in
+          stepped_done fm (store_number fm i) allowance plan i ok ∙ rw (length-take allowance plan, long, ← whole) (rw all_done.image)
 
-pub not-recovered : (fm : Form) (i : List ℕ) (allowance : ℕ) → (store-number fm i ≡ 0 → ⊥)
-    → recover fm allowance i ≡ record { number = store-number fm i; steps = 0; finished = false; image = i }
+pub not_recovered : (fm : Form) (i : List ℕ) (allowance : ℕ) → (store_number fm i ≡ 0 → ⊥)
+    → recover fm allowance i ≡ record { number = store_number fm i; steps = 0; finished = false; image = i }
 unfolding recover
-not-recovered fm i allowance h = stepped-refused fm (store-number fm i) allowance (recovery-steps (fm .edition) (pages fm i)) i h
+not_recovered fm i allowance h = stepped_refused fm (store_number fm i) allowance (recovery_steps fm.edition (pages fm i)) i h

@@ -1,10 +1,6 @@
 -- Which pages are picked to be renewed, in an array of 32 places.
-use Prim.Native.Nat.{ℕ, zero, suc}
-use mathlib.Core.Bool.{Bool, false, _&&_}
-use mathlib.Core.List.{List, [], _∷_, _++_}
-use lib.ListN.{getD}
-use lib.Dec.{eqb}
-use Rattle·survey.specs.States.{padded}
+use Rattle.std.specs.Prelude.{ℕ, zero, suc, Bool, false, ◌&&◌, List, [], ◌∷◌, ◌++◌, get_or, eqb}
+use Rattle.survey.specs.States.{padded}
 
 -- Which of the first n pages a test of the index picks; the places that are left of 32 are not picked.
 unfoldable pub tested : (ℕ → Bool) → (n : ℕ) → List Bool
@@ -18,5 +14,5 @@ picked f n = padded false (tested f n)
 unfoldable pub neither : (rank spare : ℕ) → Bool
 neither r s = eqb r 0 && eqb s 0
 
-unfoldable pub neither-at : (ranks spares : List ℕ) → (index : ℕ) → Bool
-neither-at rs ss k = neither (getD rs k 0) (getD ss k 0)
+unfoldable pub neither_at : (ranks spares : List ℕ) → (index : ℕ) → Bool
+neither_at rs ss k = neither (get_or rs k 0) (get_or ss k 0)

@@ -1,33 +1,26 @@
 // The calls that change the image: format, recovery, write and group write. An image of any length and content is lawful. It changes
 // through the two functions of crate flash only, one call for each step, in the order of the rules.
+ghost use Rattle.std.specs.Prelude.{◌≡◌, true, false, cond, [], ◌∷◌, ◌+◌, ◌*◌, ◌≤◌, ◌<◌, min, leb, length, take};
+ghost use Rattle.rules.specs.Flash.{AllAllowed};
+ghost use Rattle.rules.specs.Word.{mark_word};
+ghost use Rattle.rules.specs.Steps.{slots_steps, single, words_of, append_steps, open_steps, fill_steps, other, move_steps};
+ghost use Rattle.rules.specs.Owner.{named_owner};
+ghost use Rattle.rules.specs.Call.{first_pages, format, recover, write, triples, group_of};
+ghost use Rattle.rules.specs.Page.{size};
+ghost use Rattle.pages.specs.Read.{as_form, Lawful};
+ghost use Rattle.steps.specs.Copied.{copied};
+ghost use Rattle.choosing.specs.Way.{change_of, Lent};
+ghost use Rattle.writing.specs.Answers.{as_stepped};
+ghost use Rattle.writing.specs.Picks.{picked, neither, neither_at};
+ghost use Rattle.writing.specs.Plans.{Part, Does, Tabled, Right};
+
 use choosing::Way;
-use pages::Form;
-use pages::PAGES_MAX;
-use settings::HELD_MAX;
-use settings::NO_ADDRESS;
-use settings::NO_VALUE;
-use survey::OK;
-use survey::SIZE;
-ghost use mathlib.Core.Path.{_≡_};
-ghost use mathlib.Core.Bool.{true, false, cond};
-ghost use mathlib.Core.List.{[], _∷_};
-ghost use Prim.Native.Nat.{_+_, _*_, _≤_, _<_, min};
-ghost use lib.Dec.{leb};
-ghost use lib.ListN.{length, take};
-ghost use Rattle·rules.specs.Flash.{AllAllowed};
-ghost use Rattle·rules.specs.Word.{mark-word};
-ghost use Rattle·rules.specs.Steps.{slots-steps, single, words-of, append-steps, open-steps, fill-steps, other, move-steps};
-ghost use Rattle·rules.specs.Owner.{named-owner};
-ghost use Rattle·rules.specs.Call.{first-pages, format, recover, write, triples, group-of};
-ghost use Rattle·rules.specs.Page.{size};
-ghost use Rattle·pages.specs.Read.{as-form, Lawful};
-ghost use Rattle·steps.specs.Copied.{copied};
-ghost use Rattle·choosing.specs.Way.{change-of, Lent};
-ghost use Rattle·writing·specs.specs.Answers.{as-stepped};
-ghost use Rattle·writing·specs.specs.Picks.{picked, neither, neither-at};
-ghost use Rattle·writing·specs.specs.Plans.{Part, Does, Tabled, Right};
+use pages::{Form, PAGES_MAX};
+use settings::{HELD_MAX, NO_ADDRESS, NO_VALUE};
+use survey::{OK, SIZE};
 
 #[repr(C)]
+#[derive(Drop)]
 pub struct Stepped {
     pub number: u8,
     pub finished: bool,
@@ -36,7 +29,7 @@ pub struct Stepped {
 
 // That many steps, cut at the allowance.
 fn done(steps: u16, allowance: u16) -> Stepped
-    ensures { λ r. ⌜ (r .number ≡ 0) × (r .steps ≡ min allowance steps) × (r .finished ≡ leb steps allowance) ⌝ }
+    ensures { (result.number ≡ 0) × (result.steps ≡ min allowance steps) × (result.finished ≡ leb steps allowance) }
 {
     if allowance < steps {
         return Stepped {
@@ -53,7 +46,7 @@ fn done(steps: u16, allowance: u16) -> Stepped
 }
 
 pub fn refused(number: u8) -> Stepped
-    ensures { λ r. ⌜ (r .number ≡ number) × (r .steps ≡ 0) × (r .finished ≡ false) ⌝ }
+    ensures { (result.number ≡ number) × (result.steps ≡ 0) × (result.finished ≡ false) }
 {
     Stepped {
         number,
@@ -64,9 +57,9 @@ pub fn refused(number: u8) -> Stepped
 
 // The opening word of page 0: order 0, kind 1.
 pub fn format(image: &mut [u8], form: Form) -> u8
-    requires { ⌜ Lawful form ⌝ }
-    ensures { λ r. ⌜ r ≡ format (as-form form) (now (image .entry)) .number ⌝ }
-    ensures { λ r. ⌜ now (image .exit) ≡ format (as-form form) (now (image .entry)) .image ⌝ }
+    requires { Lawful form }
+    ensures value { result ≡ (format (as_form form) image.old).number }
+    ensures image_after { image.new ≡ (format (as_form form) image.old).image }
 {
     let n = survey::page_count(image, form);
     if n == 0 {
@@ -79,7 +72,7 @@ pub fn format(image: &mut [u8], form: Form) -> u8
 
 // An unclean page: neither used nor cleared.
 fn is_neither(rank: u32, spare: u32) -> bool
-    ensures { λ r. ⌜ r ≡ neither rank spare ⌝ }
+    ensures { result ≡ neither rank spare }
 {
     if rank != 0 {
         return false;
@@ -93,8 +86,8 @@ fn unclean<'a>(
     spares: &'a [u32; PAGES_MAX],
     n: usize,
 ) -> [bool; PAGES_MAX]
-    requires { ⌜ n ≤ 32 ⌝ }
-    ensures { λ r. ⌜ r ≡ picked (neither-at (now (ranks .entry)) (now (spares .entry))) n ⌝ }
+    requires { n ≤ 32 }
+    ensures { result ≡ picked (neither_at ranks.now spares.now) n }
 {
     let mut picks = [false; PAGES_MAX];
     let mut i = 0;
@@ -107,8 +100,8 @@ fn unclean<'a>(
 
 // All of n pages but one.
 fn others(n: usize, kept: usize) -> [bool; PAGES_MAX]
-    requires { ⌜ n ≤ 32 ⌝ }
-    ensures { λ r. ⌜ r ≡ picked (other kept) n ⌝ }
+    requires { n ≤ 32 }
+    ensures { result ≡ picked (other kept) n }
 {
     let mut picks = [false; PAGES_MAX];
     let mut i = 0;
@@ -121,9 +114,9 @@ fn others(n: usize, kept: usize) -> [bool; PAGES_MAX]
 
 // C20. Abandoning: a mark in the free slot ends the open group, if there is one.
 fn abandon(image: &mut [u8], form: Form, group: bool, page: usize, slot: usize, left: u16) -> u16
-    requires { ⌜ Lawful form × (page < 32) × (group ≡ true → slot < form .slots) ⌝ }
-    requires { ⌜ AllAllowed (size (as-form form)) (take left (cond group (slots-steps page slot (mark-word 0 ∷ [])) [])) (now image) ⌝ }
-    ensures { λ r. ⌜ Part (as-form form) left (cond group (slots-steps page slot (mark-word 0 ∷ [])) []) (now (image .entry)) (now (image .exit)) r ⌝ }
+    requires lawful { Lawful form × (page < 32) × (group ≡ true → slot < form.slots) }
+    requires all_allowed { AllAllowed (size (as_form form)) (take left (cond group (slots_steps page slot (mark_word 0 ∷ [])) [])) image.old }
+    ensures { Part (as_form form) left (cond group (slots_steps page slot (mark_word 0 ∷ [])) []) image.old image.new result }
 {
     if group {
         return steps::program_word(image, form, page, 3 + slot, words::mark_word(0), left);
@@ -133,8 +126,8 @@ fn abandon(image: &mut [u8], form: Form, group: bool, page: usize, slot: usize, 
 
 // How many steps recovery has: the mark, if a group is open, and those of the pages renewed.
 fn recovery_steps(group: bool, renewed: usize) -> u16
-    requires { ⌜ renewed ≤ 32 ⌝ }
-    ensures { λ r. ⌜ r ≡ cond group 2 0 + 3 * renewed ⌝ }
+    requires { renewed ≤ 32 }
+    ensures { result ≡ cond group 2 0 + 3 * renewed }
 {
     if group {
         return 2 + 3 * renewed as u16;
@@ -144,8 +137,8 @@ fn recovery_steps(group: bool, renewed: usize) -> u16
 
 // An open group is abandoned; then the pages that are neither used nor cleared are renewed, in index order.
 pub fn recover(image: &mut [u8], form: Form, allowance: u16) -> Stepped
-    requires { ⌜ Lawful form ⌝ }
-    ensures { λ r. ⌜ as-stepped r (now (image .exit)) ≡ recover (as-form form) allowance (now (image .entry)) ⌝ }
+    requires { Lawful form }
+    ensures { as_stepped result image.new ≡ recover (as_form form) allowance image.old }
 {
     let mut addresses = [NO_ADDRESS; HELD_MAX];
     let mut values = [NO_VALUE; HELD_MAX];
@@ -180,10 +173,10 @@ fn program_change(
     marks: bool,
     left: u16,
 ) -> u16
-    requires { ⌜ Lawful form × (page < 32) × Right (form .edition) marks (now entries)
-        × (slot + length (words-of (change-of marks (now entries))) ≤ form .slots) ⌝ }
-    requires { ⌜ AllAllowed (size (as-form form)) (take left (append-steps page slot (change-of marks (now entries)))) (now image) ⌝ }
-    ensures { λ r. ⌜ Part (as-form form) left (append-steps page slot (change-of marks (now (entries .entry)))) (now (image .entry)) (now (image .exit)) r ⌝ }
+    requires lawful { Lawful form × (page < 32) × Right form.edition marks entries.now
+        × (slot + length (words_of (change_of marks entries.now)) ≤ form.slots) }
+    requires all_allowed { AllAllowed (size (as_form form)) (take left (append_steps page slot (change_of marks entries.now))) image.old }
+    ensures { Part (as_form form) left (append_steps page slot (change_of marks entries.now)) image.old image.new result }
 {
     if marks {
         return steps::program_group(image, form, page, slot, entries, left);
@@ -193,9 +186,9 @@ fn program_change(
 
 // How many steps it takes to program a change.
 fn change_steps(entries: &[u8], marks: bool) -> u16
-    requires { ⌜ length (now entries) ≤ 26 ⌝ }
-    ensures { λ r. ⌜ r ≡ 2 * cond marks (length (triples (now (entries .entry))) + 2) (length (triples (now (entries .entry)))) ⌝ }
-    ensures { λ r. ⌜ r ≤ 20 ⌝ }
+    requires { length entries.now ≤ 26 }
+    ensures value { result ≡ 2 * cond marks (length (triples entries.now) + 2) (length (triples entries.now)) }
+    ensures upper_bound { result ≤ 20 }
 {
     2 * choosing::slots_of(entries, marks) as u16
 }
@@ -210,11 +203,11 @@ fn append(
     marks: bool,
     allowance: u16,
 ) -> Stepped
-    requires { ⌜ Lawful form × (page < 32) × Right (form .edition) marks (now entries)
-        × (slot + length (words-of (change-of marks (now entries))) ≤ form .slots) ⌝ }
-    requires { ⌜ AllAllowed (size (as-form form)) (take allowance (append-steps page slot (change-of marks (now entries)))) (now image) ⌝ }
-    ensures { λ r. ⌜ Does (as-form form) allowance (append-steps page slot (change-of marks (now (entries .entry))))
-        (now (image .entry)) r (now (image .exit)) ⌝ }
+    requires lawful { Lawful form × (page < 32) × Right form.edition marks entries.now
+        × (slot + length (words_of (change_of marks entries.now)) ≤ form.slots) }
+    requires all_allowed { AllAllowed (size (as_form form)) (take allowance (append_steps page slot (change_of marks entries.now))) image.old }
+    ensures { Does (as_form form) allowance (append_steps page slot (change_of marks entries.now))
+        image.old result image.new }
 {
     program_change(image, form, page, slot, entries, marks, allowance);
     done(change_steps(entries, marks), allowance)
@@ -230,10 +223,10 @@ fn open_page(
     marks: bool,
     allowance: u16,
 ) -> Stepped
-    requires { ⌜ Lawful form × (page < 32) × (order < 4194304) × Right (form .edition) marks (now entries) ⌝ }
-    requires { ⌜ AllAllowed (size (as-form form)) (take allowance (open-steps page order (change-of marks (now entries)))) (now image) ⌝ }
-    ensures { λ r. ⌜ Does (as-form form) allowance (open-steps page order (change-of marks (now (entries .entry))))
-        (now (image .entry)) r (now (image .exit)) ⌝ }
+    requires lawful { Lawful form × (page < 32) × (order < 4194304) × Right form.edition marks entries.now }
+    requires all_allowed { AllAllowed (size (as_form form)) (take allowance (open_steps page order (change_of marks entries.now))) image.old }
+    ensures { Does (as_form form) allowance (open_steps page order (change_of marks entries.now))
+        image.old result image.new }
 {
     let opening = words::opening_word(1, order);
     let left = steps::program_word(image, form, page, 1, opening, allowance);
@@ -253,25 +246,18 @@ fn fill<'a>(
     entries: &[u8],
     left: u16,
 ) -> u16
-    requires { ⌜ Lawful form × (page < 32) × (order < 4194304) × (held ≤ 192)
-        × (length (copied (now addresses) (now values) held (triples (now entries))) ≤ form .slots) ⌝ }
-    requires { ⌜ AllAllowed (size (as-form form)) (take left (fill-steps page order (copied (now addresses) (now values) held (triples (now entries)))))
-        (now image) ⌝ }
-    ensures { λ r. ⌜ Part (as-form form) left
-        (fill-steps page order (copied (now (addresses .entry)) (now (values .entry)) held (triples (now (entries .entry)))))
-        (now (image .entry)) (now (image .exit)) r ⌝ }
+    requires lawful { Lawful form × (page < 32) × (order < 4194304) × (held ≤ 192)
+        × (length (copied addresses.now values.now held (triples entries.now)) ≤ form.slots) }
+    requires all_allowed { AllAllowed (size (as_form form)) (take left (fill_steps page order (copied addresses.now values.now held (triples entries.now))))
+        image.old }
+    ensures { Part (as_form form) left
+        (fill_steps page order (copied addresses.now values.now held (triples entries.now)))
+        image.old image.new result }
 {
     let opening = words::opening_word(2, order);
     let opened = steps::program_word(image, form, page, 1, opening, left);
     let rest = steps::copy(
-        image,
-        form,
-        page,
-        *addresses,
-        *values,
-        held,
-        entries,
-        opened,
+        image, form, page, *addresses, *values, held, entries, opened,
     );
     steps::program_word(image, form, page, 2, words::done_word(order), rest)
 }
@@ -283,10 +269,10 @@ fn copy_count<'a>(
     held: usize,
     entries: &[u8],
 ) -> u16
-    requires { ⌜ (held ≤ 192) × (length (now entries) ≤ 26) ⌝ }
-    requires { ⌜ Tabled (now addresses) (now values) held (triples (now entries)) ⌝ }
-    ensures { λ r. ⌜ r ≡ length (copied (now (addresses .entry)) (now (values .entry)) held (triples (now (entries .entry)))) ⌝ }
-    ensures { λ r. ⌜ r ≤ 192 ⌝ }
+    requires held_bound { (held ≤ 192) × (length entries.now ≤ 26) }
+    requires tabled { Tabled addresses.now values.now held (triples entries.now) }
+    ensures value { result ≡ length (copied addresses.now values.now held (triples entries.now)) }
+    ensures upper_bound { result ≤ 192 }
 {
     (held + choosing::told_of(addresses, values, entries).new) as u16
 }
@@ -304,27 +290,19 @@ fn move_to<'a>(
     entries: &[u8],
     allowance: u16,
 ) -> Stepped
-    requires { ⌜ Lawful form × (page < n) × (n ≤ 32) × (length (now image) ≡ n * size (as-form form)) × (order < 4194304) × (held ≤ 192)
-        × (length (now entries) ≤ 26) ⌝ }
-    requires { ⌜ Tabled (now addresses) (now values) held (triples (now entries)) ⌝ }
-    requires { ⌜ AllAllowed (size (as-form form)) (take allowance (fill-steps page order (copied (now addresses) (now values) held (triples (now entries)))))
-        (now image) ⌝ }
-    ensures { λ r. ⌜ Does (as-form form) allowance
-        (move-steps (form .edition) page order (copied (now (addresses .entry)) (now (values .entry)) held (triples (now (entries .entry))))
-        (first-pages (as-form form) n (now (image .entry))))
-        (now (image .entry)) r (now (image .exit)) ⌝ }
+    requires lawful { Lawful form × (page < n) × (n ≤ 32) × (length image.old ≡ n * size (as_form form)) × (order < 4194304) × (held ≤ 192)
+        × (length entries.now ≤ 26) }
+    requires tabled { Tabled addresses.now values.now held (triples entries.now) }
+    requires all_allowed { AllAllowed (size (as_form form)) (take allowance (fill_steps page order (copied addresses.now values.now held (triples entries.now))))
+        image.old }
+    ensures { Does (as_form form) allowance
+        (move_steps form.edition page order (copied addresses.now values.now held (triples entries.now))
+        (first_pages (as_form form) n image.old))
+        image.old result image.new }
 {
     let copies = copy_count(addresses, values, held, entries);
     let left = fill(
-        image,
-        form,
-        page,
-        order,
-        addresses,
-        values,
-        held,
-        entries,
-        allowance,
+        image, form, page, order, addresses, values, held, entries, allowance,
     );
     let picks = others(n, page);
     steps::renew_picked(image, form, n, picks, left);
@@ -340,9 +318,9 @@ fn change(
     marks: bool,
     allowance: u16,
 ) -> Stepped
-    requires { ⌜ Lawful form × Lent marks (now entries) ⌝ }
-    ensures { λ r. ⌜ as-stepped r (now (image .exit))
-        ≡ write (as-form form) (named-owner timer) (change-of marks (now (entries .entry))) allowance (now (image .entry)) ⌝ }
+    requires { Lawful form × Lent marks entries.now }
+    ensures { as_stepped result image.new
+        ≡ write (as_form form) (named_owner timer) (change_of marks entries.now) allowance image.old }
 {
     let mut addresses = [NO_ADDRESS; HELD_MAX];
     let mut values = [NO_VALUE; HELD_MAX];
@@ -356,16 +334,7 @@ fn change(
             let n = store.look.count;
             let held = store.held;
             move_to(
-                image,
-                form,
-                page,
-                order,
-                n,
-                &addresses,
-                &values,
-                held,
-                entries,
-                allowance,
+                image, form, page, order, n, &addresses, &values, held, entries, allowance,
             )
         }
     }
@@ -380,8 +349,8 @@ pub fn write(
     value: u8,
     allowance: u16,
 ) -> Stepped
-    requires { ⌜ Lawful form ⌝ }
-    ensures { λ r. ⌜ as-stepped r (now (image .exit)) ≡ write (as-form form) (named-owner timer) (single address value) allowance (now (image .entry)) ⌝ }
+    requires { Lawful form }
+    ensures { as_stepped result image.new ≡ write (as_form form) (named_owner timer) (single address value) allowance image.old }
 {
     let entry = [(address % 256) as u8, (address / 256) as u8, value];
     change(image, form, timer, &entry, false, allowance)
@@ -394,9 +363,9 @@ pub fn write_group(
     entries: &[u8],
     allowance: u16,
 ) -> Stepped
-    requires { ⌜ Lawful form ⌝ }
-    ensures { λ r. ⌜ as-stepped r (now (image .exit))
-        ≡ write (as-form form) (named-owner timer) (group-of (now (entries .entry))) allowance (now (image .entry)) ⌝ }
+    requires { Lawful form }
+    ensures { as_stepped result image.new
+        ≡ write (as_form form) (named_owner timer) (group_of entries.now) allowance image.old }
 {
     change(image, form, timer, entries, true, allowance)
 }

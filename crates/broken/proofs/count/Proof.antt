@@ -1,113 +1,112 @@
 -- `broken::count` meets its contract. The invariant: the pages passed, of the line of used ones, are counted. Assumes nothing.
-use Prim.Native.Nat.{ℕ, _+_, _-_, _*_, _≤_, _<_}
-use mathlib.Core.Path.{_≡_, subst}
+use Prim.Native.Nat.{ℕ, ◌+◌, ◌-◌, ◌*◌, ◌≤◌, ◌<◌}
+use mathlib.Core.Path.{◌≡◌, subst}
 use mathlib.Core.List.{List}
 use native.Mathlib.Omega.{arith}
-use denote.Ref.{now}
-use lib.ListN.{length, getD}
-use Rattle·rules.specs.Page.{Form, size}
-use Rattle·rules.specs.Store.{each, count}
-use Rattle·pages.specs.Read.{as-form}
-use Rattle·survey.proofs.Looking.{told-few, line-places, line-within}
-use Rattle·broken·specs.specs.Counts.{Counts}
-use Rattle·broken·proofs.proofs.Counting.{counts-more, first-conditions, next-page, line-counts, page-few}
-use Rattle·broken·proofs.proofs.count.Statement.{statement}
-use Rattle·broken·proofs.proofs.count.Tie as tie
+use lib.ListN.{length, get_or}
+use Rattle.rules.specs.Page.{Form, size}
+use Rattle.rules.specs.Store.{each, count}
+use Rattle.pages.specs.Read.{as_form}
+use Rattle.survey.proofs.Looking.{told_few, line_places, line_within}
+use Rattle.broken.specs.Counts.{Counts}
+use Rattle.broken.proofs.Counting.{counts_more, first_conditions, next_page, line_counts, page_few}
+use Rattle.broken.proofs.count.Statement.{statement}
+use Rattle.broken.proofs.count.Tie as tie
 
-abbrev Inv-loop : tie.InvT-loop
-Inv-loop image form look line broken₀ k₀ broken k =
-    (k ≤ look .used) × (broken .half + broken .spoiled ≤ k * 509) × Counts (first-conditions (as-form form) image line k) broken
+abbrev invariant-loop : tie.invariant-loop
+invariant-loop image form look line broken₀ k₀ broken k =
+    (k ≤ look.used) × (broken.half + broken.spoiled ≤ k * 509) × Counts (first_conditions (as_form form) image line k) broken
 
-abbrev μ-loop : tie.MeasureT-loop
-μ-loop image form look line broken₀ k₀ broken k = look .used - k
+abbrev decreases-loop : tie.decreases-loop
+decreases-loop image form look line broken₀ k₀ broken k = look.used - k
 
-of-requires : tie.Need-of-requires Inv-loop μ-loop
-of-requires c κs = tt
+of_requires : tie.Need-of-requires invariant-loop decreases-loop
+of_requires c κs = tt
 
-loop-holds : tie.Need-loop-holds Inv-loop μ-loop
+loop-holds : tie.Need-loop-init invariant-loop decreases-loop
 unfolding count each
 loop-holds c =
-    let none = c .of .ensures in
-    (omega arith, omega (arith, none .0, none .1), record { half = none .0; spoiled = none .1 })
+    let none = c.of.ensures in
+    (omega arith, omega (arith, none.0, none.1), record { half = none.0; spoiled = none.1 })
 
 -- in the loop
-module _ (c : tie.Then1 Inv-loop μ-loop) where
-  abbrev entry : tie.Start Inv-loop μ-loop
-  entry = c .before .before .before .before .before .before
+module _ (c : tie.Then1 invariant-loop decreases-loop) where
+  abbrev entry : tie.Start invariant-loop decreases-loop
+  entry = c.before.before.before.before.before.before
 
   abbrev form : Form
-  form = as-form (entry .args .form)
+  form = as_form entry.args.form
 
   abbrev image : List ℕ
-  image = now (entry .args .image)
+  image = entry.args.image.now
 
   abbrev k : ℕ
-  k = c .before .before .loop .k
+  k = c.before.before.loop.k
 
   abbrev place : ℕ
-  place = getD (entry .args .look .line) k 0
+  place = get_or entry.args.look.line k 0
 
-  more : k < entry .args .look .used
+  more : k < entry.args.look.used
   more = omega arith
 
-  few : entry .args .look .used ≤ 32
-  few = told-few (entry .pre .1 .0) (entry .pre .1 .1) .1
+  few : entry.args.look.used ≤ 32
+  few = (told_few entry.pre.1.0 entry.pre.1.1).1
 
   within : place * size form + size form ≤ length image
-  within = line-within (entry .pre .1 .0) (entry .pre .1 .1) k more
+  within = line_within entry.pre.1.0 entry.pre.1.1 k more
 
-array-read-of-page : tie.Need-array-read-of-page Inv-loop μ-loop
-array-read-of-page c = omega (arith, few c, more c)
+array_read_of_page : tie.Need-array-read-of-page invariant-loop decreases-loop
+array_read_of_page c = omega (arith, few c, more c)
 
-cast-of-page : tie.Need-cast-of-page Inv-loop μ-loop
-cast-of-page c = omega (arith, line-places (entry c .pre .1 .0) (entry c .pre .1 .1) (k c) (more c))
+cast_of_page : tie.Need-overflow-cast-of-page invariant-loop decreases-loop
+cast_of_page c = omega (arith, line_places (entry c).requires.1.0 (entry c).requires.1.1 (k c) (more c))
 
-of-page-requires : tie.Need-of-page-requires Inv-loop μ-loop
-of-page-requires c κs =
-    let at = line-places (entry c .pre .1 .0) (entry c .pre .1 .1) (k c) (more c) in
-    (entry c .pre .0, omega arith, within c)
+of_page_requires : tie.Need-of-page-requires invariant-loop decreases-loop
+of_page_requires c κs =
+    let at = line_places (entry c).requires.1.0 (entry c).requires.1.1 (k c) (more c) in
+    ((entry c).requires.0, omega arith, within c)
 
-and-requires : tie.Need-and-requires Inv-loop μ-loop
-and-requires c κs =
-    let t = c .before in
-    let here = page-few (form t) (place t) (image t) (within t) (c .of-page .ensures) in
-    let so-far = t .before .before .loop .inv .1 in
-    let most = entry t .pre .0 .1 in
+and_requires : tie.Need-and-requires invariant-loop decreases-loop
+and_requires c κs =
+    let t = c.before in
+    let here = page_few (form t) (place t) (image t) (within t) c.of-page.ensures in
+    let so_far = t.before.before.loop.invariant.1 in
+    let most = (entry t).requires.0.1 in
     let n = few t in
     let m = more t in
     (omega arith, omega arith)
 
-add-k : tie.Need-add-k Inv-loop μ-loop
-add-k c = omega (arith, few (c .before .before), more (c .before .before))
+add_k : tie.Need-overflow-add-k invariant-loop decreases-loop
+add_k c = omega (arith, few c.before.before, more c.before.before)
 
-loop-less : tie.Need-loop-less Inv-loop μ-loop
+loop-less : tie.Need-loop-smaller invariant-loop decreases-loop
 loop-less c = omega arith
 
-loop-again : tie.Need-loop-again Inv-loop μ-loop
+loop-again : tie.Need-loop-preserved invariant-loop decreases-loop
 loop-again c =
-    let t = c .before .before in
-    let l = t .before .before .loop in
-    let here = page-few (form t) (place t) (image t) (within t) (c .before .of-page .ensures) in
-    let long = entry t .pre .1 .1 .line .long in
-    let line = entry t .args .look .line in (
+    let t = c.before.before in
+    let l = t.before.before.loop in
+    let here = page_few (form t) (place t) (image t) (within t) c.before.of-page.ensures in
+    let long = (entry t).requires.1.1.line.long in
+    let line = (entry t).args.look.line in (
       omega arith,
-      omega (arith, here, entry t .pre .0 .1, l .inv .1, c .and .ensures .0, c .and .ensures .1),
-      rw (next-page (form t) (image t) line (k t) (omega (arith, more t))) (counts-more (l .inv .2) (c .before .of-page .ensures) (c .and .ensures)),
+      omega (arith, here, (entry t).requires.0.1, l.invariant.1, c.and.ensures.0, c.and.ensures.1),
+      rw (next_page (form t) (image t) line (k t) (omega (arith, more t))) (counts_more l.invariant.2 c.before.of-page.ensures c.and.ensures),
     )
 
-returns : tie.Need-returns Inv-loop μ-loop
+returns : tie.Need-returns invariant-loop decreases-loop
 returns c =
-    let start = c .before .before .before .before .before .before in
-    let l = c .before .before .loop in
-    let look = start .args .look in
-    let line = look .line in
-    let fm = as-form (start .args .form) in
-    let image = now (start .args .image) in
-    let done : l .k ≡ look .used = omega arith in (
-      line-counts fm image line (start .pre .1 .1 .line) (subst (λ (n : ℕ). Counts (first-conditions fm image line n) (l .broken)) done (l .inv .2)),
-      omega (arith, l .inv .1, told-few (start .pre .1 .0) (start .pre .1 .1) .1),
+    let start = c.before.before.before.before.before.before in
+    let l = c.before.before.loop in
+    let look = start.args.look in
+    let line = look.line in
+    let fm = as_form start.args.form in
+    let image = start.args.image.now in
+    let done : l.k ≡ look.used = omega arith in (
+      line_counts fm image line start.requires.1.1.line (subst (λ (n : ℕ). Counts (first_conditions fm image line n) l.broken) done l.invariant.2),
+      omega (arith, l.invariant.1, (told_few start.requires.1.0 start.requires.1.1).1),
     )
 
-pub count-spec : {M : Type 1} → statement M
-count-spec =
-    tie.close (tie.spec Inv-loop μ-loop of-requires loop-holds array-read-of-page cast-of-page of-page-requires and-requires add-k loop-less loop-again returns)
+pub count_spec : {M : Type 1} → statement M
+count_spec =
+    tie.close (tie.spec invariant-loop decreases-loop of_requires loop-holds array_read_of_page cast_of_page of_page_requires and_requires add_k loop-less loop-again returns)

@@ -1,25 +1,25 @@
 -- `choosing::held_by` meets its contract. Assumes nothing.
 use native.Mathlib.Omega.{arith}
-use borrow.Author.Needs.{needs}
-use Rattle·choosing·proofs.proofs.Rooms.{handsets, handsets-few, timers}
-use Rattle·choosing·proofs.proofs.held_by.Statement.{statement}
-use Rattle·choosing·proofs.proofs.held_by.Tie as tie
+use borrow.Author.Rules.{rules}
+use Rattle.choosing.proofs.Rooms.{handsets, handsets_few, timers}
+use Rattle.choosing.proofs.held_by.Statement.{statement}
+use Rattle.choosing.proofs.held_by.Tie as tie
 
-place-requires : tie.Need-place-requires
-place-requires c κs = search needs
+place_requires : tie.Need-place-requires
+place_requires c κs = search rules
 
-sub-result : tie.Need-sub-result
-sub-result c =
-    let s = c .before .before in
-    handsets-few (s .pre .0) (s .pre .1) (c .before .place .ensures)
+sub_result : tie.Need-overflow-sub-result
+sub_result c =
+    let s = c.before.before in
+    handsets_few s.requires.0 s.requires.1 c.before.place.ensures
 
 returns : tie.Need-returns
 returns c =
-    let s = c .before .before in
-    (λ ps h. rw (c .if1 .taken) (timers ps h (c .before .place .ensures)), omega (arith, s .pre .1 .few, s .pre .1 .many))
+    let s = c.before.before in
+    (λ ps h. rw c.if1.true (timers ps h c.before.place.ensures), omega (arith, s.requires.1.few, s.requires.1.many))
 
-returns-2 : tie.Need-returns-2
-returns-2 c = (λ ps h. rw (c .if1 .left) (handsets ps h (c .before .place .ensures)), c .before .place .ensures .within)
+returns_2 : tie.Need-returns-2
+returns_2 c = (λ ps h. rw c.if1.false (handsets ps h c.before.place.ensures), c.before.place.ensures.within)
 
-pub held-by-spec : {M : Type 1} → statement M
-held-by-spec = tie.close (tie.spec place-requires sub-result returns returns-2)
+pub held_by_spec : {M : Type 1} → statement M
+held_by_spec = tie.close (tie.spec place_requires sub_result returns returns_2)

@@ -1,36 +1,35 @@
 -- `choosing::is_wrong_group` meets its contract. Assumes nothing.
-use mathlib.Core.Path.{sym, _∙_}
+use mathlib.Core.Path.{sym, ◌∙◌}
 use native.Mathlib.Omega.{arith}
-use denote.Ref.{now}
-use borrow.Author.Needs.{needs}
-use Rattle·choosing·proofs.proofs.Telling.{no-groups, cut-short, no-settings, too-many, by-repeats}
-use Rattle·choosing·proofs.proofs.is_wrong_group.Statement.{statement}
-use Rattle·choosing·proofs.proofs.is_wrong_group.Tie as tie
+use borrow.Author.Rules.{rules}
+use Rattle.choosing.proofs.Telling.{no_groups, cut_short, no_settings, too_many, by_repeats}
+use Rattle.choosing.proofs.is_wrong_group.Statement.{statement}
+use Rattle.choosing.proofs.is_wrong_group.Tie as tie
 
 returns : tie.Need-returns
-returns c = let a = c .before .before .args in sym (no-groups (a .edition) (now (a .entries)) (omega arith))
+returns c = let a = c.before.before.args in sym (no_groups a.edition a.entries.now (omega arith))
 
-returns-2 : tie.Need-returns-2
-returns-2 c = let a = c .before .before .before .args in sym (cut-short (a .edition) (now (a .entries)) (omega arith) (c .if2 .taken))
+returns_2 : tie.Need-returns-2
+returns_2 c = let a = c.before.before.before.args in sym (cut_short a.edition a.entries.now (omega arith) c.if2.true)
 
-returns-3 : tie.Need-returns-3
-returns-3 c =
-    let a = c .before .before .before .before .args in
-    sym (no-settings (a .edition) (now (a .entries)) (omega arith) (omega arith) (c .if3 .taken))
+returns_3 : tie.Need-returns-3
+returns_3 c =
+    let a = c.before.before.before.before.args in
+    sym (no_settings a.edition a.entries.now (omega arith) (omega arith) c.if3.true)
 
-returns-4 : tie.Need-returns-4
-returns-4 c =
-    let a = c .before .before .before .before .before .args in
-    sym (too-many (a .edition) (now (a .entries)) (omega arith) (omega arith) (c .before .if3 .left) (omega arith))
+returns_4 : tie.Need-returns-4
+returns_4 c =
+    let a = c.before.before.before.before.before.args in
+    sym (too_many a.edition a.entries.now (omega arith) (omega arith) c.before.if3.false (omega arith))
 
-repeats-requires : tie.Need-repeats-requires
-repeats-requires c κs = search needs
+repeats_requires : tie.Need-repeats-requires
+repeats_requires c κs = search rules
 
-returns-5 : tie.Need-returns-5
-returns-5 c =
-    let few = c .before in
-    let a = few .before .before .before .before .before .args in
-    c .repeats .ensures ∙ sym (by-repeats (a .edition) (now (a .entries)) (omega arith) (omega arith) (few .before .if3 .left) (omega arith))
+returns_5 : tie.Need-returns-5
+returns_5 c =
+    let few = c.before in
+    let a = few.before.before.before.before.before.args in
+    c.repeats.ensures ∙ sym (by_repeats a.edition a.entries.now (omega arith) (omega arith) few.before.if3.false (omega arith))
 
-pub is-wrong-group-spec : {M : Type 1} → statement M
-is-wrong-group-spec = tie.close (tie.spec returns returns-2 returns-3 returns-4 repeats-requires returns-5)
+pub is_wrong_group_spec : {M : Type 1} → statement M
+is_wrong_group_spec = tie.close (tie.spec returns returns_2 returns_3 returns_4 repeats_requires returns_5)

@@ -1,38 +1,38 @@
 -- `flash::program_at` meets its contract. Assumes nothing.
-use Prim.Native.Nat.{_+_, _≤_}
+use Prim.Native.Nat.{◌+◌, ◌≤◌}
 use lib.ListN.{length}
 use native.Mathlib.Omega.{arith}
-use Rattle·flash·proofs.proofs.Lent.{two-past, may-program-rest, programmed-rest}
-use borrow.Author.Needs.{needs}
-use Rattle·flash·proofs.proofs.program_at.Statement.{statement}
-use Rattle·flash·proofs.proofs.program_at.Tie as tie
+use Rattle.flash.proofs.Lent.{two_past, may_program_rest, programmed_rest}
+use borrow.Author.Rules.{rules}
+use Rattle.flash.proofs.program_at.Statement.{statement}
+use Rattle.flash.proofs.program_at.Tie as tie
 
 -- the half-word lies in the image
-long : (s : tie.Start) → s .args .at + 2 ≤ length (s .args .image .now)
-long s = two-past (s .args .at) (s .args .image .now) 255 255 (s .pre)
+long : (s : tie.Start) → s.args.at + 2 ≤ length s.args.image.now
+long s = two_past s.args.at s.args.image.now 255 255 s.requires
 
-sub-program : tie.Need-sub-program
-sub-program c = omega (arith, long (c .before))
+sub_program : tie.Need-overflow-sub-program
+sub_program c = omega (arith, long c.before)
 
-part-program-start : tie.Need-part-program-start
-part-program-start c = omega (arith, long (c .before))
+part_program_start : tie.Need-slice-bounds-program-start
+part_program_start c = omega (arith, long c.before)
 
-part-program-end : tie.Need-part-program-end
-part-program-end c = search needs
+part_program_end : tie.Need-slice-bounds-program-end
+part_program_end c = search rules
 
-program-requires : tie.Need-program-requires
-program-requires c κs =
-    let s = c .before .before in
-    may-program-rest (s .args .at) (s .args .image .now) 255 255 (s .pre)
+program_requires : tie.Need-program-requires
+program_requires c κs =
+    let s = c.before.before in
+    may_program_rest s.args.at s.args.image.now 255 255 s.requires
 
-same-length : tie.Need-same-length
-same-length c = search needs
+same_length : tie.Need-same-length
+same_length c = search rules
 
 returns : tie.Need-returns
 returns c =
-    let s = c .before .before .before .before .before in
-    let p = c .before .before .program in
-    programmed-rest (s .args .at) (s .args .image .now) (p .last .0) (s .args .low) (s .args .high) (long s) (p .ensures)
+    let s = c.before.before.before.before.before in
+    let p = c.before.before.program in
+    programmed_rest s.args.at s.args.image.now p.new.0 s.args.low s.args.high (long s) p.ensures
 
-pub program-at-spec : {M : Type 1} → statement M
-program-at-spec = tie.close (tie.spec sub-program part-program-start part-program-end program-requires same-length returns)
+pub program_at_spec : {M : Type 1} → statement M
+program_at_spec = tie.close (tie.spec sub_program part_program_start part_program_end program_requires same_length returns)

@@ -1,50 +1,49 @@
 -- `istrovell::istrovell_blank_read` meets its contract: the image is read by the form that it has at the page size. Assumes nothing.
-use denote.Ref.{now}
-use borrow.Author.Needs.{needs}
-use Rattle·rules.specs.Owner.{named-owner}
-use Rattle·rules.specs.Call.{SIZE, refused-reading, blank-read}
-use Rattle·rules.proofs.Named.{blank-read-wrong}
-use Rattle·survey.proofs.Sizes.{sized-lawful, sized-right, sized-wrong}
-use Rattle·istrovell·proofs.proofs.istrovell_blank_read.Statement.{statement}
-use Rattle·istrovell·proofs.proofs.istrovell_blank_read.Tie as tie
+use borrow.Author.Rules.{rules}
+use Rattle.rules.specs.Owner.{named_owner}
+use Rattle.rules.specs.Call.{SIZE, refused_reading, blank_read}
+use Rattle.rules.proofs.Named.{blank_read_wrong}
+use Rattle.survey.proofs.Sizes.{sized_lawful, sized_right, sized_wrong}
+use Rattle.istrovell.proofs.istrovell_blank_read.Statement.{statement}
+use Rattle.istrovell.proofs.istrovell_blank_read.Tie as tie
 
 returns : tie.Need-returns
 returns c =
-    let known = c .before .before in
-    let sized = known .before .before in
-    let a = sized .before .before .args in
-    let i = now (a .image) in
-    let o = named-owner (a .timer) in
-    sized-right (a .page-size) i (sized .form-at .ensures) (refused-reading SIZE) (λ f. blank-read f o (a .address) i) (known .form .given .1)
-    (c .blank-read .ensures)
+    let known = c.before.before in
+    let sized = known.before.before in
+    let a = sized.before.before.args in
+    let i = a.image.now in
+    let o = named_owner a.timer in
+    sized_right a.page-size i sized.form-at.ensures (refused_reading SIZE) (λ f. blank_read f o a.address i) known.form.given.1
+    c.blank_read.ensures
 
-returns-2 : tie.Need-returns-2
-returns-2 c =
-    let sized = c .before .before .before in
-    let a = sized .before .before .args in
-    let i = now (a .image) in
-    let o = named-owner (a .timer) in
-    sized-wrong (a .page-size) i (sized .form-at .ensures) (refused-reading SIZE) (λ f. blank-read f o (a .address) i) (c .before .enum-told .given .1)
-    (λ f w. blank-read-wrong f i w o (a .address)) (c .refused .ensures)
+returns_2 : tie.Need-returns-2
+returns_2 c =
+    let sized = c.before.before.before in
+    let a = sized.before.before.args in
+    let i = a.image.now in
+    let o = named_owner a.timer in
+    sized_wrong a.page-size i sized.form-at.ensures (refused_reading SIZE) (λ f. blank_read f o a.address i) c.before.enum_told.given.1
+    (λ f w. blank_read_wrong f i w o a.address) c.refused.ensures
 
-form-at-requires : tie.Need-form-at-requires
-form-at-requires c κs = search needs
+form_at_requires : tie.Need-form-at-requires
+form_at_requires c κs = search rules
 
-enum-known-form : tie.Need-enum-known-form
-enum-known-form c = search needs
+enum_known_form : tie.Need-enum-known-form
+enum_known_form c = search rules
 
-blank-read-requires : tie.Need-blank-read-requires
-blank-read-requires c κs =
-    let known = c .before in
-    let sized = known .before .before in
-    let a = sized .before .before .args in
-    sized-lawful (a .page-size) (now (a .image)) (sized .form-at .ensures) (known .form .given .1)
+blank_read_requires : tie.Need-blank-read-requires
+blank_read_requires c κs =
+    let known = c.before in
+    let sized = known.before.before in
+    let a = sized.before.before.args in
+    sized_lawful a.page-size a.image.now sized.form-at.ensures known.form.given.1
 
-enum-told : tie.Need-enum-told
-enum-told c = search needs
+enum_told : tie.Need-enum-told
+enum_told c = search rules
 
-refused-requires : tie.Need-refused-requires
-refused-requires c κs = search needs
+refused_requires : tie.Need-refused-requires
+refused_requires c κs = search rules
 
-pub istrovell-blank-read-spec : {M : Type 1} → statement M
-istrovell-blank-read-spec = tie.close (tie.spec form-at-requires enum-known-form blank-read-requires enum-told refused-requires returns returns-2)
+pub istrovell_blank_read_spec : {M : Type 1} → statement M
+istrovell_blank_read_spec = tie.close (tie.spec form_at_requires enum_known_form blank_read_requires enum_told refused_requires returns returns_2)

@@ -1,50 +1,49 @@
 -- `istrovell::istrovell_read` meets its contract: the image is read by the form that it has at the page size. Assumes nothing.
-use denote.Ref.{now}
-use borrow.Author.Needs.{needs}
-use Rattle·rules.specs.Owner.{named-owner}
-use Rattle·rules.specs.Call.{SIZE, refused-reading, read}
-use Rattle·rules.proofs.Named.{read-wrong}
-use Rattle·survey.proofs.Sizes.{sized-lawful, sized-right, sized-wrong}
-use Rattle·istrovell·proofs.proofs.istrovell_read.Statement.{statement}
-use Rattle·istrovell·proofs.proofs.istrovell_read.Tie as tie
+use borrow.Author.Rules.{rules}
+use Rattle.rules.specs.Owner.{named_owner}
+use Rattle.rules.specs.Call.{SIZE, refused_reading, read}
+use Rattle.rules.proofs.Named.{read_wrong}
+use Rattle.survey.proofs.Sizes.{sized_lawful, sized_right, sized_wrong}
+use Rattle.istrovell.proofs.istrovell_read.Statement.{statement}
+use Rattle.istrovell.proofs.istrovell_read.Tie as tie
 
 returns : tie.Need-returns
 returns c =
-    let known = c .before .before in
-    let sized = known .before .before in
-    let a = sized .before .before .args in
-    let i = now (a .image) in
-    let o = named-owner (a .timer) in
-    sized-right (a .page-size) i (sized .form-at .ensures) (refused-reading SIZE) (λ f. read f o (a .address) i) (known .form .given .1)
-    (c .read .ensures)
+    let known = c.before.before in
+    let sized = known.before.before in
+    let a = sized.before.before.args in
+    let i = a.image.now in
+    let o = named_owner a.timer in
+    sized_right a.page-size i sized.form-at.ensures (refused_reading SIZE) (λ f. read f o a.address i) known.form.given.1
+    c.read.ensures
 
-returns-2 : tie.Need-returns-2
-returns-2 c =
-    let sized = c .before .before .before in
-    let a = sized .before .before .args in
-    let i = now (a .image) in
-    let o = named-owner (a .timer) in
-    sized-wrong (a .page-size) i (sized .form-at .ensures) (refused-reading SIZE) (λ f. read f o (a .address) i) (c .before .enum-told .given .1)
-    (λ f w. read-wrong f i w o (a .address)) (c .refused .ensures)
+returns_2 : tie.Need-returns-2
+returns_2 c =
+    let sized = c.before.before.before in
+    let a = sized.before.before.args in
+    let i = a.image.now in
+    let o = named_owner a.timer in
+    sized_wrong a.page-size i sized.form-at.ensures (refused_reading SIZE) (λ f. read f o a.address i) c.before.enum_told.given.1
+    (λ f w. read_wrong f i w o a.address) c.refused.ensures
 
-form-at-requires : tie.Need-form-at-requires
-form-at-requires c κs = search needs
+form_at_requires : tie.Need-form-at-requires
+form_at_requires c κs = search rules
 
-enum-known-form : tie.Need-enum-known-form
-enum-known-form c = search needs
+enum_known_form : tie.Need-enum-known-form
+enum_known_form c = search rules
 
-read-requires : tie.Need-read-requires
-read-requires c κs =
-    let known = c .before in
-    let sized = known .before .before in
-    let a = sized .before .before .args in
-    sized-lawful (a .page-size) (now (a .image)) (sized .form-at .ensures) (known .form .given .1)
+read_requires : tie.Need-read-requires
+read_requires c κs =
+    let known = c.before in
+    let sized = known.before.before in
+    let a = sized.before.before.args in
+    sized_lawful a.page-size a.image.now sized.form-at.ensures known.form.given.1
 
-enum-told : tie.Need-enum-told
-enum-told c = search needs
+enum_told : tie.Need-enum-told
+enum_told c = search rules
 
-refused-requires : tie.Need-refused-requires
-refused-requires c κs = search needs
+refused_requires : tie.Need-refused-requires
+refused_requires c κs = search rules
 
-pub istrovell-read-spec : {M : Type 1} → statement M
-istrovell-read-spec = tie.close (tie.spec form-at-requires enum-known-form read-requires enum-told refused-requires returns returns-2)
+pub istrovell_read_spec : {M : Type 1} → statement M
+istrovell_read_spec = tie.close (tie.spec form_at_requires enum_known_form read_requires enum_told refused_requires returns returns_2)

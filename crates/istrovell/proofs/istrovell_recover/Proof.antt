@@ -1,56 +1,55 @@
 -- `istrovell::istrovell_recover` meets its contract: the image is read by the form that it has at the page size. Assumes nothing.
-use denote.Ref.{now}
-use borrow.Author.Needs.{needs}
-use Rattle·rules.specs.Call.{SIZE, refused-steps, recover}
-use Rattle·rules.proofs.Named.{recover-wrong}
-use Rattle·survey.proofs.Sizes.{sized-lawful, sized-right, sized-wrong}
-use Rattle·istrovell·proofs.proofs.istrovell_recover.Statement.{statement}
-use Rattle·istrovell·proofs.proofs.istrovell_recover.Tie as tie
+use borrow.Author.Rules.{rules}
+use Rattle.rules.specs.Call.{SIZE, refused_steps, recover}
+use Rattle.rules.proofs.Named.{recover_wrong}
+use Rattle.survey.proofs.Sizes.{sized_lawful, sized_right, sized_wrong}
+use Rattle.istrovell.proofs.istrovell_recover.Statement.{statement}
+use Rattle.istrovell.proofs.istrovell_recover.Tie as tie
 
 returns : tie.Need-returns
 returns c =
-    let called = c .before .before in
-    let known = called .before .before .before in
-    let sized = known .before .before in
-    let a = sized .before .before .before .args in
-    let i = now (a .image) in
-    sized-right (a .page-size) i (sized .form-at .ensures) (refused-steps SIZE i) (λ f. recover f (a .allowance) i) (known .form .given .1)
-    (called .recover .ensures)
+    let called = c.before.before in
+    let known = called.before.before.before in
+    let sized = known.before.before in
+    let a = sized.before.before.before.args in
+    let i = a.image.now in
+    sized_right a.page-size i sized.form-at.ensures (refused_steps SIZE i) (λ f. recover f a.allowance i) known.form.given.1
+    called.recover.ensures
 
-returns-2 : tie.Need-returns-2
-returns-2 c =
-    let sized = c .before .before .before in
-    let a = sized .before .before .before .args in
-    let i = now (a .image) in
-    sized-wrong (a .page-size) i (sized .form-at .ensures) (refused-steps SIZE i) (λ f. recover f (a .allowance) i) (c .before .enum-told .given .1)
-    (λ f w. recover-wrong f i w (a .allowance)) (let r = c .refused .ensures in rw (r .0, r .1, r .2))
+returns_2 : tie.Need-returns-2
+returns_2 c =
+    let sized = c.before.before.before in
+    let a = sized.before.before.before.args in
+    let i = a.image.now in
+    sized_wrong a.page-size i sized.form-at.ensures (refused_steps SIZE i) (λ f. recover f a.allowance i) c.before.enum_told.given.1
+    (λ f w. recover_wrong f i w a.allowance) (let r = c.refused.ensures in rw (r.0, r.1, r.2))
 
-form-at-requires : tie.Need-form-at-requires
-form-at-requires c κs = search needs
+form_at_requires : tie.Need-form-at-requires
+form_at_requires c κs = search rules
 
-enum-known-form : tie.Need-enum-known-form
-enum-known-form c = search needs
+enum_known_form : tie.Need-enum-known-form
+enum_known_form c = search rules
 
-recover-requires : tie.Need-recover-requires
-recover-requires c κs =
-    let known = c .before .before in
-    let sized = known .before .before in
-    let a = sized .before .before .before .args in
-    sized-lawful (a .page-size) (now (a .image)) (sized .form-at .ensures) (known .form .given .1)
+recover_requires : tie.Need-recover-requires
+recover_requires c κs =
+    let known = c.before.before in
+    let sized = known.before.before in
+    let a = sized.before.before.before.args in
+    sized_lawful a.page-size a.image.now sized.form-at.ensures known.form.given.1
 
-enum-told : tie.Need-enum-told
-enum-told c = search needs
+enum_told : tie.Need-enum-told
+enum_told c = search rules
 
-refused-requires : tie.Need-refused-requires
-refused-requires c κs = search needs
+refused_requires : tie.Need-refused-requires
+refused_requires c κs = search rules
 
-same-length : tie.Need-same-length
-same-length c = search needs
+same_length : tie.Need-same-length
+same_length c = search rules
 
-same-length-2 : tie.Need-same-length-2
-same-length-2 c = search needs
+same_length_2 : tie.Need-same-length-2
+same_length_2 c = search rules
 
-pub istrovell-recover-spec : {M : Type 1} → statement M
-istrovell-recover-spec =
+pub istrovell_recover_spec : {M : Type 1} → statement M
+istrovell_recover_spec =
     tie.close
-    (tie.spec form-at-requires enum-known-form recover-requires enum-told refused-requires same-length returns same-length-2 returns-2)
+    (tie.spec form_at_requires enum_known_form recover_requires enum_told refused_requires same_length returns same_length_2 returns_2)

@@ -1,61 +1,60 @@
 -- `istrovell::istrovell_write_group` meets its contract: the image is read by the form that it has at the page size. Assumes nothing.
-use denote.Ref.{now}
-use borrow.Author.Needs.{needs}
-use Rattle·rules.specs.Owner.{named-owner}
-use Rattle·rules.specs.Call.{SIZE, refused-steps, write, group-of}
-use Rattle·rules.proofs.Named.{write-wrong}
-use Rattle·survey.proofs.Sizes.{sized-lawful, sized-right, sized-wrong}
-use Rattle·istrovell·proofs.proofs.istrovell_write_group.Statement.{statement}
-use Rattle·istrovell·proofs.proofs.istrovell_write_group.Tie as tie
+use borrow.Author.Rules.{rules}
+use Rattle.rules.specs.Owner.{named_owner}
+use Rattle.rules.specs.Call.{SIZE, refused_steps, write, group_of}
+use Rattle.rules.proofs.Named.{write_wrong}
+use Rattle.survey.proofs.Sizes.{sized_lawful, sized_right, sized_wrong}
+use Rattle.istrovell.proofs.istrovell_write_group.Statement.{statement}
+use Rattle.istrovell.proofs.istrovell_write_group.Tie as tie
 
 returns : tie.Need-returns
 returns c =
-    let called = c .before .before in
-    let known = called .before .before .before in
-    let sized = known .before .before in
-    let a = sized .before .before .before .before .args in
-    let i = now (a .image) in
-    let o = named-owner (a .timer) in
-    let ch = group-of (now (a .group)) in
-    sized-right (a .page-size) i (sized .form-at .ensures) (refused-steps SIZE i) (λ f. write f o ch (a .allowance) i) (known .form .given .1)
-    (called .write-group .ensures)
+    let called = c.before.before in
+    let known = called.before.before.before in
+    let sized = known.before.before in
+    let a = sized.before.before.before.before.args in
+    let i = a.image.now in
+    let o = named_owner a.timer in
+    let ch = group_of a.group.now in
+    sized_right a.page-size i sized.form-at.ensures (refused_steps SIZE i) (λ f. write f o ch a.allowance i) known.form.given.1
+    called.write_group.ensures
 
-returns-2 : tie.Need-returns-2
-returns-2 c =
-    let sized = c .before .before .before in
-    let a = sized .before .before .before .before .args in
-    let i = now (a .image) in
-    let o = named-owner (a .timer) in
-    let ch = group-of (now (a .group)) in
-    sized-wrong (a .page-size) i (sized .form-at .ensures) (refused-steps SIZE i) (λ f. write f o ch (a .allowance) i) (c .before .enum-told .given .1)
-    (λ f w. write-wrong f i w o ch (a .allowance)) (let r = c .refused .ensures in rw (r .0, r .1, r .2))
+returns_2 : tie.Need-returns-2
+returns_2 c =
+    let sized = c.before.before.before in
+    let a = sized.before.before.before.before.args in
+    let i = a.image.now in
+    let o = named_owner a.timer in
+    let ch = group_of a.group.now in
+    sized_wrong a.page-size i sized.form-at.ensures (refused_steps SIZE i) (λ f. write f o ch a.allowance i) c.before.enum_told.given.1
+    (λ f w. write_wrong f i w o ch a.allowance) (let r = c.refused.ensures in rw (r.0, r.1, r.2))
 
-form-at-requires : tie.Need-form-at-requires
-form-at-requires c κs = search needs
+form_at_requires : tie.Need-form-at-requires
+form_at_requires c κs = search rules
 
-enum-known-form : tie.Need-enum-known-form
-enum-known-form c = search needs
+enum_known_form : tie.Need-enum-known-form
+enum_known_form c = search rules
 
-write-group-requires : tie.Need-write-group-requires
-write-group-requires c κs =
-    let known = c .before .before in
-    let sized = known .before .before in
-    let a = sized .before .before .before .before .args in
-    sized-lawful (a .page-size) (now (a .image)) (sized .form-at .ensures) (known .form .given .1)
+write_group_requires : tie.Need-write-group-requires
+write_group_requires c κs =
+    let known = c.before.before in
+    let sized = known.before.before in
+    let a = sized.before.before.before.before.args in
+    sized_lawful a.page-size a.image.now sized.form-at.ensures known.form.given.1
 
-enum-told : tie.Need-enum-told
-enum-told c = search needs
+enum_told : tie.Need-enum-told
+enum_told c = search rules
 
-refused-requires : tie.Need-refused-requires
-refused-requires c κs = search needs
+refused_requires : tie.Need-refused-requires
+refused_requires c κs = search rules
 
-same-length : tie.Need-same-length
-same-length c = search needs
+same_length : tie.Need-same-length
+same_length c = search rules
 
-same-length-2 : tie.Need-same-length-2
-same-length-2 c = search needs
+same_length_2 : tie.Need-same-length-2
+same_length_2 c = search rules
 
-pub istrovell-write-group-spec : {M : Type 1} → statement M
-istrovell-write-group-spec =
+pub istrovell_write_group_spec : {M : Type 1} → statement M
+istrovell_write_group_spec =
     tie.close
-    (tie.spec form-at-requires enum-known-form write-group-requires enum-told refused-requires same-length returns same-length-2 returns-2)
+    (tie.spec form_at_requires enum_known_form write_group_requires enum_told refused_requires same_length returns same_length_2 returns_2)

@@ -1,119 +1,118 @@
 -- `lines::list` meets its contract: an accepted image is listed, a refused one's number is told. Assumes nothing.
-use Prim.Native.Nat.{ℕ, _≤_}
-use mathlib.Core.Path.{_≡_}
-use mathlib.Core.List.{List, _++_}
+use Prim.Native.Nat.{ℕ, ◌≤◌}
+use mathlib.Core.Path.{◌≡◌}
+use mathlib.Core.List.{List, ◌++◌}
 use native.Mathlib.Omega.{arith}
-use denote.Ref.{now}
 use lib.ListN.{length, length-append}
-use borrow.Author.Needs.{needs}
-use Rattle·rules.specs.Page.{Form}
-use Rattle·rules.specs.Store.{settings}
-use Rattle·rules.specs.Call.{pages}
-use Rattle·rules.specs.Listing.{decimal, text-refused, line-end, used-conditions, setting-lines}
-use Rattle·pages.specs.Read.{as-form}
-use Rattle·settings.proofs.Tables.{holds-none}
-use Rattle·store.specs.declared.Store.{Store}
-use Rattle·store.specs.Opened.{Opens}
-use Rattle·survey.proofs.Looking.{told-few}
-use Rattle·store.proofs.Values.{pages-accepted, look-told}
-use Rattle·broken.specs.declared.Broken.{Broken}
-use Rattle·broken.specs.Counts.{Counts}
-use Rattle·lines·proofs.proofs.Decimal.{decimal-length}
-use Rattle·lines·proofs.proofs.Appending.{appends-then, appends-written}
-use Rattle·lines·proofs.proofs.Told.{told-held, told-line-length, first, listing-room, listing-accepted, listing-refused}
-use Rattle·lines·proofs.proofs.list.Statement.{statement}
-use Rattle·lines·proofs.proofs.list.Tie as tie
+use borrow.Author.Rules.{rules}
+use Rattle.rules.specs.Page.{Form}
+use Rattle.rules.specs.Store.{settings}
+use Rattle.rules.specs.Call.{pages}
+use Rattle.rules.specs.Listing.{decimal, text_refused, line_end, used_conditions, setting_lines}
+use Rattle.pages.specs.Read.{as_form}
+use Rattle.settings.proofs.Tables.{holds_none}
+use Rattle.store.specs.declared.Store.{Store}
+use Rattle.store.specs.Opened.{Opens}
+use Rattle.survey.proofs.Looking.{told_few}
+use Rattle.store.proofs.Values.{pages_accepted, look_told}
+use Rattle.broken.specs.declared.Broken.{Broken}
+use Rattle.broken.specs.Counts.{Counts}
+use Rattle.lines.proofs.Decimal.{decimal_length}
+use Rattle.lines.proofs.Appending.{appends_then, appends_written}
+use Rattle.lines.proofs.Told.{told_held, told_line_length, first, listing_room, listing_accepted, listing_refused}
+use Rattle.lines.proofs.list.Statement.{statement}
+use Rattle.lines.proofs.list.Tie as tie
 
 module _ (c : tie.After-open) where
   abbrev entry : tie.Start
-  entry = c .before .before .before .before .before
+  entry = c.before.before.before.before.before
 
   abbrev image : List ℕ
-  image = now (entry .args .image)
+  image = entry.args.image.now
 
   abbrev form : Form
-  form = as-form (entry .args .form)
+  form = as_form entry.args.form
 
   abbrev buffer : List ℕ
-  buffer = now (entry .args .out)
+  buffer = entry.args.out.now
 
   abbrev store : Store
-  store = c .«open» .result
+  store = c.«open».result
 
-  opens : Opens form image store (c .«open» .last .1 .1 .0) (c .«open» .last .1 .1 .1 .0)
-  opens = c .«open» .ensures
+  opens : Opens form image store c.«open».new.1.1.0 c.«open».new.1.1.1.0
+  opens = c.«open».ensures
 
-open-requires : tie.Need-open-requires
-open-requires c κs = (c .before .before .before .before .pre .0, holds-none)
+open_requires : tie.Need-open-requires
+open_requires c κs = (c.before.before.before.before.requires.0, holds_none)
 
-put-refused-requires : tie.Need-put-refused-requires
-put-refused-requires c κs = search needs
+put_refused_requires : tie.Need-put-refused-requires
+put_refused_requires c κs = search rules
 
-same-length : tie.Need-same-length
-same-length c = search needs
+same_length : tie.Need-same-length
+same_length c = search rules
 
 returns : tie.Need-returns
 returns c =
-    let refused = c .before .before .before .before in
-    let o = refused .before in
-    let n = store o .number in
-    let short = decimal-length n in
-    let room : length (text-refused ++ decimal n ++ line-end) ≤ length (buffer o) = simp length-append (omega arith) in
-    rw (← listing-refused (form o) (image o) n (opens o .number) (refused .if1 .taken)) (appends-written room (c .before .before .put-refused .ensures))
+    let refused = c.before.before.before.before in
+    let o = refused.before in
+    let n = (store o).number in
+    let short = decimal_length n in
+    let room : length (text_refused ++ decimal n ++ line_end) ≤ length (buffer o) = simp length-append (omega arith) in
+    rw (← listing_refused (form o) (image o) n (opens o).number refused.if1.true) (appends_written room c.before.before.Put-refused.ensures)
 
 -- an image that is not refused, its broken words counted
 module _ (c : tie.After-count) where
   abbrev opened : tie.After-open
-  opened = c .before .before .before
+  opened = c.before.before.before
 
-  right : store opened .number ≡ 0
-  right = c .before .before .if1 .left
+  right : (store opened).number ≡ 0
+  right = c.before.before.if1.false
 
   abbrev broken : Broken
-  broken = c .count .result
+  broken = c.count.result
 
-  counts : Counts (used-conditions (pages (form opened) (image opened))) broken
-  counts = c .count .ensures .0
+  counts : Counts (used_conditions (pages (form opened) (image opened))) broken
+  counts = c.count.ensures.0
 
-count-requires : tie.Need-count-requires
-count-requires c κs =
-    let o = c .before .before in
-    let z = c .before .if1 .left in
-    (entry o .pre .0, (pages-accepted (opens o) z, look-told (opens o) z))
+count_requires : tie.Need-count-requires
+count_requires c κs =
+    let o = c.before.before in
+    let z = c.before.if1.false in
+    ((entry o).requires.0, (pages_accepted (opens o) z, look_told (opens o) z))
 
-put-first-requires : tie.Need-put-first-requires
-put-first-requires c κs =
-    let k = c .before in
+put_first_requires : tie.Need-put-first-requires
+put_first_requires c κs =
+    let k = c.before in
     let o = opens (opened k) in
-    let p = told-few (pages-accepted o (right k)) (look-told o (right k)) in
-    ((p .0, p .1, p .2, look-told o (right k) .fits, told-held o (right k), k .count .ensures .1), omega arith)
+    let p = told_few (pages_accepted o (right k)) (look_told o (right k)) in
+    ((p.0, p.1, p.2, (look_told o (right k)).fits, told_held o (right k), k.count.ensures.1), omega arith)
 
-put-settings-requires : tie.Need-put-settings-requires
-put-settings-requires c κs =
-    let k = c .before .before .before .before .before .before .before in
+put_settings_requires : tie.Need-put-settings-requires
+put_settings_requires c κs =
+    let k = c.before.before.before.before.before.before.before in
     let s = store (opened k) in
-    let l = s .look in
+    let l = s.look in
     let b = broken k in
-    let few = told-held (opens (opened k)) (right k) in
-    (few, omega (arith, told-line-length (l .count) (l .used) (l .cleared) (l .order) (s .held) (b .half) (b .spoiled)))
+    let few = told_held (opens (opened k)) (right k) in
+    (few, omega (arith, told_line_length l.count l.used l.cleared l.order s.held b.half b.spoiled))
 
-same-length-2 : tie.Need-same-length-2
-same-length-2 c = search needs
+same_length_2 : tie.Need-same-length-2
+same_length_2 c = search rules
 
-returns-2 : tie.Need-returns-2
-returns-2 c =
-    let first-put = c .before .before .before .before .before .before .before .before in
-    let k = first-put .before .before in
+returns_2 : tie.Need-returns-2
+returns_2 c =
+    let first_put = c.before.before.before.before.before.before.before.before in
+    let k = first_put.before.before in
     let o = opened k in
     let z = right k in
-    let fits = listing-room (opens o) z (counts k) in
-    let lines = setting-lines (settings (pages (form o) (image o))) in
+    let fits = listing_room (opens o) z (counts k) in
+    let lines = setting_lines (settings (pages (form o) (image o))) in
     let room : length (first (opens o) z (counts k) ++ lines) ≤ length (buffer o) = omega arith in
-    let rest = c .before .before .put-settings .ensures (settings (pages (form o) (image o))) (opens o .holding z .holds) in
-    rw (← listing-accepted (opens o) z (counts k))
-    (appends-written room (appends-then {s = first (opens o) z (counts k)} (first-put .put-first .ensures) rest))
+    let rest = c.before.before.put-settings.ensures (settings (pages (form o) (image o))) ((opens o).holding z).holds in
+    rw (← listing_accepted (opens o) z (counts k))
+    (appends_written room (appends_then {s = first (opens o) z (counts k)} first_put.put_first.ensures rest))
 
-pub list-spec : {M : Type 1} → statement M
-list-spec =
-    tie.close (tie.spec open-requires put-refused-requires same-length returns count-requires put-first-requires put-settings-requires same-length-2
-    returns-2)
+pub list_spec : {M : Type 1} → statement M
+list_spec =
+    tie.close (tie.spec open_requires put_refused_requires same_length returns count_requires put_first_requires put_settings_requires same_length_2
+    returns_2)

@@ -1,19 +1,19 @@
 -- `list` meets its contract: the form that it passes on is the image's own. Assumes nothing.
-use borrow.Author.Needs.{needs}
-use Rattle·listing·proofs.proofs.list.Statement.{statement}
-use Rattle·listing·proofs.proofs.list.Tie as tie
+use borrow.Author.Rules.{rules}
+use Rattle.listing.proofs.list.Statement.{statement}
+use Rattle.listing.proofs.list.Tie as tie
 
-form-of-requires : tie.Need-form-of-requires
-form-of-requires c κs = search needs
+form_of_requires : tie.Need-form-of-requires
+form_of_requires c κs = search rules
 
-list-requires : tie.Need-list-requires
-list-requires c κs = search needs
+list_requires : tie.Need-list-requires
+list_requires c κs = search rules
 
-same-length : tie.Need-same-length
-same-length c = search needs
+same_length : tie.Need-same-length
+same_length c = search rules
 
 returns : tie.Need-returns
-returns c = rw (← c .before .before .before .before .form-of .ensures .0) (c .before .before .list .ensures)
+returns c = rw (← c.before.before.before.before.form_of.ensures.0) c.before.before.list.ensures
 
-pub list-spec : {M : Type 1} → statement M
-list-spec = tie.close (tie.spec form-of-requires list-requires same-length returns)
+pub list_spec : {M : Type 1} → statement M
+list_spec = tie.close (tie.spec form_of_requires list_requires same_length returns)

@@ -1,45 +1,45 @@
 -- `main` meets its contract: what it reads and prints lies in its buffers. Assumes only what io and libc do.
 use mathlib.Core.Path.{sym}
 use lib.Seq.{length-take-le}
-use borrow.Author.Needs.{needs}
-use Rattle·listing·proofs.proofs.main.Statement.{statement}
-use Rattle·listing·proofs.proofs.main.Tie as tie
+use borrow.Author.Rules.{rules}
+use Rattle.listing.proofs.main.Statement.{statement}
+use Rattle.listing.proofs.main.Tie as tie
 
-slice-aggregate-read-full : tie.Need-slice-aggregate-read-full
-slice-aggregate-read-full c = search needs
+slice_aggregate_read_full : tie.Need-slice-aggregate-read-full
+slice_aggregate_read_full c = search rules
 
-read-full-requires : tie.Need-read-full-requires
-read-full-requires c κs = search needs
+read_full_requires : tie.Need-read-full-requires
+read_full_requires c κs = search rules
 
-buffer-requires : tie.Need-buffer-requires
-buffer-requires c κs = search needs
+buffer_requires : tie.Need-buffer-requires
+buffer_requires c κs = search rules
 
-array-share-prefix-bytes : tie.Need-array-share-prefix-bytes
-array-share-prefix-bytes c = search needs
+array_share_prefix_bytes : tie.Need-array-share-prefix-bytes
+array_share_prefix_bytes c = search rules
 
-slice-aggregate-list : tie.Need-slice-aggregate-list
-slice-aggregate-list c = search needs
+slice_aggregate_list : tie.Need-slice-aggregate-list
+slice_aggregate_list c = search rules
 
-slice-aggregate-list-2 : tie.Need-slice-aggregate-list-2
-slice-aggregate-list-2 c = search needs
+slice_aggregate_list_2 : tie.Need-slice-aggregate-list-2
+slice_aggregate_list_2 c = search rules
 
-list-requires : tie.Need-list-requires
-list-requires c κs = search needs
+list_requires : tie.Need-list-requires
+list_requires c κs = search rules
 
-array-share-prefix-out : tie.Need-array-share-prefix-out
-array-share-prefix-out c = search needs
+array_share_prefix_out : tie.Need-array-share-prefix-out
+array_share_prefix_out c = search rules
 
-slice-aggregate-write-all : tie.Need-slice-aggregate-write-all
-slice-aggregate-write-all c = let l = c .before .before .list in
-    sym (length-take-le (l .result) (l .last .1 .0) (l .ensures .within))
+slice_aggregate_write_all : tie.Need-slice-aggregate-write-all
+slice_aggregate_write_all c = let l = c.before.before.list in
+    sym (length-take-le l.result l.new.1.0 l.ensures.within)
 
-write-all-requires : tie.Need-write-all-requires
-write-all-requires c κs = search needs
+write_all_requires : tie.Need-write-all-requires
+write_all_requires c κs = search rules
 
 returns : tie.Need-returns
-returns c = search needs
+returns c = search rules
 
-pub main-spec : {M : Type 1} → statement M
-main-spec =
-    tie.close (tie.spec slice-aggregate-read-full read-full-requires buffer-requires array-share-prefix-bytes slice-aggregate-list
-    slice-aggregate-list-2 list-requires array-share-prefix-out slice-aggregate-write-all write-all-requires returns)
+pub main_spec : {M : Type 1} → statement M
+main_spec =
+    tie.close (tie.spec slice_aggregate_read_full read_full_requires buffer_requires array_share_prefix_bytes slice_aggregate_list
+    slice_aggregate_list_2 list_requires array_share_prefix_out slice_aggregate_write_all write_all_requires returns)

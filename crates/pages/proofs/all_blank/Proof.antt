@@ -1,54 +1,54 @@
 -- `pages::all_blank` meets its contract. The invariant: the words from the offset on decide. Assumes nothing.
-use Prim.Native.Nat.{_≤_, _-_}
-use mathlib.Core.Path.{_≡_, refl, sym, ap, _∙_}
+use Prim.Native.Nat.{◌≤◌, ◌-◌}
+use mathlib.Core.Path.{◌≡◌, refl, sym, ap, ◌∙◌}
 use native.Mathlib.Omega.{arith}
 use lib.ListN.{length, drop}
 use borrow.Author.Tests.{not-true, not-false}
-use Rattle·rules.specs.Word.{words, blank}
-use Rattle·rules.specs.Page.{all-blank}
-use Rattle·pages·proofs.proofs.Scan.{blank-on, blank-off, blank-end}
-use Rattle·pages·proofs.proofs.all_blank.Statement.{statement}
-use Rattle·pages·proofs.proofs.all_blank.Tie as tie
+use Rattle.rules.specs.Word.{words, blank}
+use Rattle.rules.specs.Page.{all_blank}
+use Rattle.pages.proofs.Scan.{blank_on, blank_off, blank_end}
+use Rattle.pages.proofs.all_blank.Statement.{statement}
+use Rattle.pages.proofs.all_blank.Tie as tie
 
-abbrev Inv-loop : tie.InvT-loop
-Inv-loop s at₀ at = (at ≤ length s) × (all-blank (words s) ≡ all-blank (words (drop at s)))
+abbrev invariant-loop : tie.invariant-loop
+invariant-loop s at₀ at = (at ≤ length s) × (all_blank (words s) ≡ all_blank (words (drop at s)))
 
-abbrev μ-loop : tie.MeasureT-loop
-μ-loop s at₀ at = length s - at
+abbrev decreases-loop : tie.decreases-loop
+decreases-loop s at₀ at = length s - at
 
-loop-holds : tie.Need-loop-holds Inv-loop μ-loop
+loop-holds : tie.Need-loop-init invariant-loop decreases-loop
 loop-holds c = (omega arith, refl)
 
-add-loop : tie.Need-add-loop Inv-loop μ-loop
-add-loop c = omega arith
+add_loop : tie.Need-overflow-add-loop invariant-loop decreases-loop
+add_loop c = omega arith
 
-word-at-requires : tie.Need-word-at-requires Inv-loop μ-loop
-word-at-requires c κs = omega arith
+word_at_requires : tie.Need-word-at-requires invariant-loop decreases-loop
+word_at_requires c κs = omega arith
 
-is-blank-requires : tie.Need-is-blank-requires Inv-loop μ-loop
-is-blank-requires c κs = tt
+is_blank_requires : tie.Need-is-blank-requires invariant-loop decreases-loop
+is_blank_requires c κs = tt
 
-returns : tie.Need-returns Inv-loop μ-loop
+returns : tie.Need-returns invariant-loop decreases-loop
 returns c =
-    let here = c .before .before .before .before .loop in
-    let b : blank _ ≡ _ = ap blank (sym (c .before .before .word-at .ensures)) ∙ sym (c .before .is-blank .ensures) ∙ not-true _ (c .if1 .taken) in
-    sym (here .inv .1 ∙ blank-off (here .at) _ (omega arith) b)
+    let here = c.before.before.before.before.loop in
+    let b : blank _ ≡ _ = ap blank (sym c.before.before.word_at.ensures) ∙ sym c.before.is-blank.ensures ∙ not-true _ c.if1.true in
+    sym (here.invariant.1 ∙ blank_off here.at _ (omega arith) b)
 
-add-at : tie.Need-add-at Inv-loop μ-loop
-add-at c = omega arith
+add_at : tie.Need-overflow-add-at invariant-loop decreases-loop
+add_at c = omega arith
 
-loop-less : tie.Need-loop-less Inv-loop μ-loop
+loop-less : tie.Need-loop-smaller invariant-loop decreases-loop
 loop-less c = omega arith
 
-loop-again : tie.Need-loop-again Inv-loop μ-loop
+loop-again : tie.Need-loop-preserved invariant-loop decreases-loop
 loop-again c =
-    let here = c .before .before .before .before .loop in
-    let b : blank _ ≡ _ = ap blank (sym (c .before .before .word-at .ensures)) ∙ sym (c .before .is-blank .ensures) ∙ not-false _ (c .if1 .left) in
-    (omega arith, here .inv .1 ∙ blank-on (here .at) _ (omega arith) b)
+    let here = c.before.before.before.before.loop in
+    let b : blank _ ≡ _ = ap blank (sym c.before.before.word_at.ensures) ∙ sym c.before.is-blank.ensures ∙ not-false _ c.if1.false in
+    (omega arith, here.invariant.1 ∙ blank_on here.at _ (omega arith) b)
 
-returns-2 : tie.Need-returns-2 Inv-loop μ-loop
-returns-2 c = let here = c .before .loop in sym (here .inv .1 ∙ blank-end (here .at) _ (omega arith))
+returns_2 : tie.Need-returns-2 invariant-loop decreases-loop
+returns_2 c = let here = c.before.loop in sym (here.invariant.1 ∙ blank_end here.at _ (omega arith))
 
-pub all-blank-spec : {M : Type 1} → statement M
-all-blank-spec =
-    tie.close (tie.spec Inv-loop μ-loop loop-holds add-loop word-at-requires is-blank-requires returns add-at loop-less loop-again returns-2)
+pub all_blank_spec : {M : Type 1} → statement M
+all_blank_spec =
+    tie.close (tie.spec invariant-loop decreases-loop loop-holds add_loop word_at_requires is_blank_requires returns add_at loop-less loop-again returns_2)

@@ -1,30 +1,30 @@
 -- `pages::is_done` meets its contract. Assumes nothing.
 use mathlib.Core.Bool.{and-true, and-false}
-use borrow.Author.Tests.{eq-eqb, ne-eqb}
-use borrow.Author.Needs.{needs}
-use Rattle·rules.specs.Page.{is-done}
-use Rattle·pages·proofs.proofs.is_done.Statement.{statement}
-use Rattle·pages·proofs.proofs.is_done.Tie as tie
+use borrow.Author.Tests.{eq-eqb, ne_eqb}
+use borrow.Author.Rules.{rules}
+use Rattle.rules.specs.Page.{is_done}
+use Rattle.pages.proofs.is_done.Statement.{statement}
+use Rattle.pages.proofs.is_done.Tie as tie
 
-low24-requires : tie.Need-low24-requires
-low24-requires c κs = search needs
+low24_requires : tie.Need-low24-requires
+low24_requires c κs = search rules
 
-mul-if1 : tie.Need-mul-if1
-mul-if1 c = search needs
+mul_if1 : tie.Need-overflow-mul-if1
+mul_if1 c = search rules
 
-add-if1 : tie.Need-add-if1
-add-if1 c = search needs
+add_if1 : tie.Need-overflow-add-if1
+add_if1 c = search rules
 
 returns : tie.Need-returns
-unfolding is-done
-returns c = rw (← c .before .low24 .ensures, ne-eqb _ _ (c .if1 .taken), and-false)
+unfolding is_done
+returns c = rw (← c.before.low24.ensures, ne_eqb _ _ c.if1.true, and-false)
 
-is-sound-requires : tie.Need-is-sound-requires
-is-sound-requires c κs = search needs
+is_sound_requires : tie.Need-is-sound-requires
+is_sound_requires c κs = search rules
 
-returns-2 : tie.Need-returns-2
-unfolding is-done
-returns-2 c = rw (← c .before .before .low24 .ensures, eq-eqb _ _ (c .before .if1 .left), and-true) (c .is-sound .ensures)
+returns_2 : tie.Need-returns-2
+unfolding is_done
+returns_2 c = rw (← c.before.before.low24.ensures, eq-eqb _ _ c.before.if1.false, and-true) c.is-sound.ensures
 
-pub is-done-spec : {M : Type 1} → statement M
-is-done-spec = tie.close (tie.spec low24-requires mul-if1 add-if1 returns is-sound-requires returns-2)
+pub is_done_spec : {M : Type 1} → statement M
+is_done_spec = tie.close (tie.spec low24_requires mul_if1 add_if1 returns is_sound_requires returns_2)

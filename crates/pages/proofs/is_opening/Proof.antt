@@ -1,24 +1,24 @@
 -- `pages::is_opening` meets its contract. Assumes nothing.
 use mathlib.Core.Bool.{and-true, and-false}
-use borrow.Author.Tests.{eq-eqb, ne-eqb}
-use borrow.Author.Needs.{needs}
-use Rattle·rules.specs.Page.{is-opening}
-use Rattle·pages·proofs.proofs.is_opening.Statement.{statement}
-use Rattle·pages·proofs.proofs.is_opening.Tie as tie
+use borrow.Author.Tests.{eq-eqb, ne_eqb}
+use borrow.Author.Rules.{rules}
+use Rattle.rules.specs.Page.{is_opening}
+use Rattle.pages.proofs.is_opening.Statement.{statement}
+use Rattle.pages.proofs.is_opening.Tie as tie
 
-low24-requires : tie.Need-low24-requires
-low24-requires c κs = search needs
+low24_requires : tie.Need-low24-requires
+low24_requires c κs = search rules
 
 returns : tie.Need-returns
-unfolding is-opening
-returns c = rw (← c .before .low24 .ensures, ne-eqb _ _ (c .if1 .taken), and-false)
+unfolding is_opening
+returns c = rw (← c.before.low24.ensures, ne_eqb _ _ c.if1.true, and-false)
 
-is-sound-requires : tie.Need-is-sound-requires
-is-sound-requires c κs = search needs
+is_sound_requires : tie.Need-is-sound-requires
+is_sound_requires c κs = search rules
 
-returns-2 : tie.Need-returns-2
-unfolding is-opening
-returns-2 c = rw (← c .before .before .low24 .ensures, eq-eqb _ _ (c .before .if1 .left), and-true) (c .is-sound .ensures)
+returns_2 : tie.Need-returns-2
+unfolding is_opening
+returns_2 c = rw (← c.before.before.low24.ensures, eq-eqb _ _ c.before.if1.false, and-true) c.is-sound.ensures
 
-pub is-opening-spec : {M : Type 1} → statement M
-is-opening-spec = tie.close (tie.spec low24-requires returns is-sound-requires returns-2)
+pub is_opening_spec : {M : Type 1} → statement M
+is_opening_spec = tie.close (tie.spec low24_requires returns is_sound_requires returns_2)

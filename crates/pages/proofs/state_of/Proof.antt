@@ -1,38 +1,38 @@
 -- `pages::state_of` meets its contract. Assumes nothing.
-use mathlib.Core.Path.{sym, ap, _∙_}
+use mathlib.Core.Path.{sym, ap, ◌∙◌}
 use native.Mathlib.Omega.{arith}
-use borrow.Author.Needs.{needs}
-use Rattle·rules.specs.Page.{state-after-wear}
-use Rattle·rules.specs.Store.{order}
-use Rattle·pages·proofs.proofs.Header.{no-wear, with-wear}
-use Rattle·pages·proofs.proofs.state_of.Statement.{statement}
-use Rattle·pages·proofs.proofs.state_of.Tie as tie
+use borrow.Author.Rules.{rules}
+use Rattle.rules.specs.Page.{state_after_wear}
+use Rattle.rules.specs.Store.{order}
+use Rattle.pages.proofs.Header.{no_wear, with_wear}
+use Rattle.pages.proofs.state_of.Statement.{statement}
+use Rattle.pages.proofs.state_of.Tie as tie
 
-word-at-requires : tie.Need-word-at-requires
-word-at-requires c κs = search needs
+word_at_requires : tie.Need-word-at-requires
+word_at_requires c κs = search rules
 
-is-wear-requires : tie.Need-is-wear-requires
-is-wear-requires c κs = search needs
+is_wear_requires : tie.Need-is-wear-requires
+is_wear_requires c κs = search rules
 
-low16-requires : tie.Need-low16-requires
-low16-requires c κs = search needs
+low16_requires : tie.Need-low16-requires
+low16_requires c κs = search rules
 
-after-wear-requires : tie.Need-after-wear-requires
-after-wear-requires c κs = search needs
+after_wear_requires : tie.Need-after-wear-requires
+after_wear_requires c κs = search rules
 
 returns : tie.Need-returns
 returns c =
-    let w = c .before .before .before .before in
-    let t = sym (c .before .before .before .is-wear .ensures) ∙ c .before .before .if1 .taken in
-    let s = with-wear _ _ (omega arith) (w .word-at .ensures) t in
-    (c .after-wear .ensures .0 ∙ ap (state-after-wear _) (c .before .low16 .ensures) ∙ sym s, c .after-wear .ensures .1)
+    let w = c.before.before.before.before in
+    let t = sym c.before.before.before.is_wear.ensures ∙ c.before.before.if1.true in
+    let s = with_wear _ _ (omega arith) w.word_at.ensures t in
+    (c.after-wear.ensures.0 ∙ ap (state_after_wear _) c.before.low16.ensures ∙ sym s, c.after-wear.ensures.1)
 
-returns-2 : tie.Need-returns-2
+returns_2 : tie.Need-returns-2
 unfolding order
-returns-2 c =
-    let w = c .before .before in
-    let t = sym (c .before .is-wear .ensures) ∙ c .if1 .left in
-    (sym (no-wear _ _ (omega arith) (w .word-at .ensures) t), omega arith)
+returns_2 c =
+    let w = c.before.before in
+    let t = sym c.before.is_wear.ensures ∙ c.if1.false in
+    (sym (no_wear _ _ (omega arith) w.word_at.ensures t), omega arith)
 
-pub state-of-spec : {M : Type 1} → statement M
-state-of-spec = tie.close (tie.spec word-at-requires is-wear-requires low16-requires after-wear-requires returns returns-2)
+pub state_of_spec : {M : Type 1} → statement M
+state_of_spec = tie.close (tie.spec word_at_requires is_wear_requires low16_requires after_wear_requires returns returns_2)

@@ -1,60 +1,59 @@
 -- `steps::greatest_wear` meets its contract. The invariant: the greatest of the first i pages is known. Assumes nothing.
-use Prim.Native.Nat.{ℕ, _-_, _≤_, max}
-use mathlib.Core.Path.{_≡_, sym, ap, _∙_}
+use Prim.Native.Nat.{ℕ, ◌-◌, ◌≤◌, max}
+use mathlib.Core.Path.{◌≡◌, sym, ap, ◌∙◌}
 use native.Mathlib.Omega.{arith}
-use denote.Ref.{now}
-use borrow.Author.Needs.{needs}
-use Rattle·rules.specs.Page.{size}
-use Rattle·rules.proofs.Cut.{page-within}
-use Rattle·pages.specs.Read.{as-form}
-use Rattle·steps·proofs.proofs.Greatest.{greatest-of, greatest-none, greatest-more, greatest-all}
-use Rattle·steps·proofs.proofs.greatest_wear.Statement.{statement}
-use Rattle·steps·proofs.proofs.greatest_wear.Tie as tie
+use borrow.Author.Rules.{rules}
+use Rattle.rules.specs.Page.{size}
+use Rattle.rules.proofs.Cut.{page_within}
+use Rattle.pages.specs.Read.{as_form}
+use Rattle.steps.proofs.Greatest.{greatest_of, greatest_none, greatest_more, greatest_all}
+use Rattle.steps.proofs.greatest_wear.Statement.{statement}
+use Rattle.steps.proofs.greatest_wear.Tie as tie
 
-abbrev Inv-loop : tie.InvT-loop
-Inv-loop image form n greatest₀ i₀ greatest i = (i ≤ n) × (greatest ≡ greatest-of (as-form form) n image i)
+abbrev invariant-loop : tie.invariant-loop
+invariant-loop image form n greatest₀ i₀ greatest i = (i ≤ n) × (greatest ≡ greatest_of (as_form form) n image i)
 
-abbrev μ-loop : tie.MeasureT-loop
-μ-loop image form n greatest₀ i₀ greatest i = n - i
+abbrev decreases-loop : tie.decreases-loop
+decreases-loop image form n greatest₀ i₀ greatest i = n - i
 
-loop-again : tie.Need-loop-again Inv-loop μ-loop
+loop-again : tie.Need-loop-preserved invariant-loop decreases-loop
 loop-again c =
-    let l = c .before .before .before .loop in
-    let a = c .before .before .before .before .before .args in
-    let w = c .before .wear-at in (
+    let l = c.before.before.before.loop in
+    let a = c.before.before.before.before.before.args in
+    let w = c.before.wear_at in (
       omega arith,
-      c .greater .ensures ∙ ap (λ (g : ℕ). max g (w .result)) (l .inv .1)
-          ∙ greatest-more (as-form (a .form)) (a .n) (now (a .image)) (l .i) (w .result) (omega arith) (w .ensures),
+      c.greater.ensures ∙ ap (λ (g : ℕ). max g w.result) l.invariant.1
+          ∙ greatest_more (as_form a.form) a.n a.image.now l.i w.result (omega arith) w.ensures,
     )
 
-returns : tie.Need-returns Inv-loop μ-loop
+returns : tie.Need-returns invariant-loop decreases-loop
 returns c =
-    let l = c .before .loop in
-    let a = c .before .before .before .args in
-    let e : l .i ≡ a .n = omega arith in
-    l .inv .1 ∙ ap (greatest-of (as-form (a .form)) (a .n) (now (a .image))) e ∙ greatest-all (as-form (a .form)) (a .n) (now (a .image))
+    let l = c.before.loop in
+    let a = c.before.before.before.args in
+    let e : l.i ≡ a.n = omega arith in
+    l.invariant.1 ∙ ap (greatest_of (as_form a.form) a.n a.image.now) e ∙ greatest_all (as_form a.form) a.n a.image.now
 
-loop-holds : tie.Need-loop-holds Inv-loop μ-loop
+loop-holds : tie.Need-loop-init invariant-loop decreases-loop
 loop-holds c =
-    let a = c .before .args in
-    (omega arith, sym (greatest-none (as-form (a .form)) (a .n) (now (a .image))))
+    let a = c.before.args in
+    (omega arith, sym (greatest_none (as_form a.form) a.n a.image.now))
 
-wear-at-requires : tie.Need-wear-at-requires Inv-loop μ-loop
-wear-at-requires c κs =
-    let s = c .before .before .before in
-    let l = c .before .loop in
-    let inside = page-within (size (as-form (s .args .form))) (s .args .n) (l .i) (omega arith) in
-    let room = s .pre .2 in
-    (s .pre .0, omega arith, omega arith)
+wear_at_requires : tie.Need-wear-at-requires invariant-loop decreases-loop
+wear_at_requires c κs =
+    let s = c.before.before.before in
+    let l = c.before.loop in
+    let inside = page_within (size (as_form s.args.form)) s.args.n l.i (omega arith) in
+    let room = s.requires.2 in
+    (s.requires.0, omega arith, omega arith)
 
-greater-requires : tie.Need-greater-requires Inv-loop μ-loop
-greater-requires c κs = search needs
+greater_requires : tie.Need-greater-requires invariant-loop decreases-loop
+greater_requires c κs = search rules
 
-add-i : tie.Need-add-i Inv-loop μ-loop
-add-i c = search needs
+add_i : tie.Need-overflow-add-i invariant-loop decreases-loop
+add_i c = search rules
 
-loop-less : tie.Need-loop-less Inv-loop μ-loop
-loop-less c = search needs
+loop-less : tie.Need-loop-smaller invariant-loop decreases-loop
+loop-less c = search rules
 
-pub greatest-wear-spec : {M : Type 1} → statement M
-greatest-wear-spec = tie.close (tie.spec Inv-loop μ-loop loop-holds wear-at-requires greater-requires add-i loop-less loop-again returns)
+pub greatest_wear_spec : {M : Type 1} → statement M
+greatest_wear_spec = tie.close (tie.spec invariant-loop decreases-loop loop-holds wear_at_requires greater_requires add_i loop-less loop-again returns)

@@ -1,84 +1,83 @@
 -- `steps::program_word` meets its contract. Assumes nothing.
-use mathlib.Core.Path.{_≡_, refl}
+use mathlib.Core.Path.{◌≡◌, refl}
 use native.Mathlib.Omega.{arith}
-use denote.Ref.{now}
-use borrow.Author.Needs.{needs}
-use Rattle·rules.specs.Page.{size}
-use Rattle·pages.specs.Read.{as-form}
-use Rattle·steps·proofs.proofs.Halves.{none-left, first-allowed, one-done, second-allowed, both-done}
-use Rattle·steps·proofs.proofs.program_word.Statement.{statement}
-use Rattle·steps·proofs.proofs.program_word.Tie as tie
-use Rattle·steps·proofs.proofs.program_word.Reads as reads
-use Rattle·steps·proofs.proofs.program_word.Lts as lts
-use Rattle·flash.proofs.program_at.Reads as program-at-reads
-use Rattle·pages.proofs.Form.start.Reads as start-reads
+use borrow.Author.Rules.{rules}
+use Rattle.rules.specs.Page.{size}
+use Rattle.pages.specs.Read.{as_form}
+use Rattle.steps.proofs.Halves.{none_left, first_allowed, one_done, second_allowed, both_done}
+use Rattle.steps.proofs.program_word.Statement.{statement}
+use Rattle.steps.proofs.program_word.Tie as tie
+use Rattle.steps.proofs.program_word.Reads as reads
+use Rattle.steps.proofs.program_word.Lts as lts
+use Rattle.flash.proofs.program_at.Reads as program_at_reads
+use Rattle.pages.proofs.Form.start.Reads as start_reads
 
 returns : tie.Need-returns
 returns c =
-    let a = c .before .before .args in
-    let e : a .left ≡ 0 = c .if1 .taken in
-    (omega arith, none-left (size (as-form (a .form))) (a .left) _ (now (a .image)) e)
+    let a = c.before.before.args in
+    let e : a.left ≡ 0 = c.if1.true in
+    (omega arith, none_left (size (as_form a.form)) a.left _ a.image.now e)
 
-start-requires : tie.Need-start-requires
-start-requires c κs = search needs
+start_requires : tie.Need-start-requires
+start_requires c κs = search rules
 
-mul-at : tie.Need-mul-at
-mul-at c = search needs
+mul_at : tie.Need-overflow-mul-at
+mul_at c = search rules
 
-add-at : tie.Need-add-at
-add-at c = search needs
+add_at : tie.Need-overflow-add-at
+add_at c = search rules
 
-program-at-requires : tie.Need-program-at-requires
-program-at-requires c κs =
-    let s = c .before .before .before .before in
-    let a = s .args in
-    first-allowed (size (as-form (a .form))) (a .page) (a .place) (c .before .start .result) (c .before .start .ensures .0)
-    (a .w .a) (a .w .b) (a .w .c) (a .w .d) (now (a .image)) (a .left) (search needs) (s .pre .1)
+program_at_requires : tie.Need-program-at-requires
+program_at_requires c κs =
+    let s = c.before.before.before.before in
+    let a = s.args in
+    first_allowed (size (as_form a.form)) a.page a.place c.before.start.result c.before.start.ensures.0
+    a.w.a a.w.b a.w.c a.w.d a.image.now a.left (search rules) s.requires.1
 
-same-length : tie.Need-same-length
-same-length c = search needs
+same_length : tie.Need-same-length
+same_length c = search rules
 
-returns-2 : tie.Need-returns-2
-returns-2 c =
-    let a = c .before .before .before .before .before .before .before .before .args in
-    let o = c .before .before .before .before .before .start in
-    let p = c .before .before .before .program-at in
-    let e : a .left ≡ 1 = c .if2 .taken in (
+returns_2 : tie.Need-returns-2
+returns_2 c =
+    let a = c.before.before.before.before.before.before.before.before.args in
+    let o = c.before.before.before.before.before.start in
+    let p = c.before.before.before.program-at in
+    let e : a.left ≡ 1 = c.if2.true in (
       omega arith,
-      one-done (size (as-form (a .form))) (a .page) (a .place) (o .result) (o .ensures .0) (a .w .a) (a .w .b) (a .w .c) (a .w .d)
-          (now (a .image)) (a .left) (p .last .0) e (p .ensures),
+      one_done (size (as_form a.form)) a.page a.place o.result o.ensures.0 a.w.a a.w.b a.w.c a.w.d
+          a.image.now a.left p.new.0 e p.ensures,
     )
 
-add-program-at : tie.Need-add-program-at
-add-program-at c = search needs
+add_program_at : tie.Need-overflow-add-program-at
+add_program_at c = search rules
 
-program-at-requires-2 : tie.Need-program-at-requires-2
-program-at-requires-2 c κs =
-    let s = c .before .before .before .before .before .before .before .before .before in
-    let a = s .args in
-    let o = c .before .before .before .before .before .before .start in
-    let p = c .before .before .before .before .program-at in
-    second-allowed (size (as-form (a .form))) (a .page) (a .place) (o .result) (o .ensures .0) (a .w .a) (a .w .b) (a .w .c) (a .w .d)
-    (now (a .image)) (a .left) (p .last .0) (search needs) (search needs) (s .pre .1) (p .ensures)
+program_at_requires_2 : tie.Need-program-at-requires-2
+program_at_requires_2 c κs =
+    let s = c.before.before.before.before.before.before.before.before.before in
+    let a = s.args in
+    let o = c.before.before.before.before.before.before.start in
+    let p = c.before.before.before.before.program-at in
+    second_allowed (size (as_form a.form)) a.page a.place o.result o.ensures.0 a.w.a a.w.b a.w.c a.w.d
+    a.image.now a.left p.new.0 (search rules) (search rules) s.requires.1 p.ensures
 
-sub-result : tie.Need-sub-result
-sub-result c = search needs
+sub_result : tie.Need-overflow-sub-result
+sub_result c = search rules
 
-same-length-2 : tie.Need-same-length-2
-same-length-2 c = search needs
+same_length_2 : tie.Need-same-length-2
+same_length_2 c = search rules
 
-returns-3 : tie.Need-returns-3
-returns-3 c =
-    let a = c .before .before .before .before .before .before .before .before .before .before .before .before .args in
-    let o = c .before .before .before .before .before .before .before .before .before .start in
-    let p = c .before .before .before .before .before .before .before .program-at in
-    let q = c .before .before .program-at2 in (
+returns_3 : tie.Need-returns-3
+returns_3 c =
+    let a = c.before.before.before.before.before.before.before.before.before.before.before.before.args in
+    let o = c.before.before.before.before.before.before.before.before.before.start in
+    let p = c.before.before.before.before.before.before.before.program-at in
+    let q = c.before.before.program-at2 in (
       refl,
-      both-done (size (as-form (a .form))) (a .page) (a .place) (o .result) (o .ensures .0) (a .w .a) (a .w .b) (a .w .c) (a .w .d)
-          (now (a .image)) (a .left) (p .last .0) (q .last .0) (search needs) (search needs) (p .ensures) (q .ensures),
+      both_done (size (as_form a.form)) a.page a.place o.result o.ensures.0 a.w.a a.w.b a.w.c a.w.d
+          a.image.now a.left p.new.0 q.new.0 (search rules) (search rules) p.ensures q.ensures,
     )
 
-pub program-word-spec : {M : Type 1} → statement M
-program-word-spec =
-    tie.close (tie.spec returns start-requires mul-at add-at program-at-requires same-length returns-2 add-program-at program-at-requires-2
-    sub-result same-length-2 returns-3)
+pub program_word_spec : {M : Type 1} → statement M
+program_word_spec =
+    tie.close (tie.spec returns start_requires mul_at add_at program_at_requires same_length returns_2 add_program_at program_at_requires_2
+    sub_result same_length_2 returns_3)

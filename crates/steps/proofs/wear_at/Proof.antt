@@ -1,48 +1,47 @@
 -- `steps::wear_at` meets its contract. Assumes nothing.
 use Prim.Native.Nat.{ℕ}
-use mathlib.Core.Path.{ap, _∙_}
+use mathlib.Core.Path.{ap, ◌∙◌}
 use mathlib.Core.List.{List}
-use denote.Ref.{now}
-use borrow.Author.Needs.{needs}
-use Rattle·rules.specs.Word.{words}
-use Rattle·rules.specs.Page.{wear-in, page}
-use Rattle·rules.specs.Store.{or-value}
-use Rattle·pages.specs.Read.{as-form}
-use Rattle·pages.proofs.Forms.{part-is}
-use Rattle·steps·proofs.proofs.wear_at.Statement.{statement}
-use Rattle·steps·proofs.proofs.wear_at.Tie as tie
+use borrow.Author.Rules.{rules}
+use Rattle.rules.specs.Word.{words}
+use Rattle.rules.specs.Page.{wear_in, page}
+use Rattle.rules.specs.Store.{or_value}
+use Rattle.pages.specs.Read.{as_form}
+use Rattle.pages.proofs.Forms.{part_is}
+use Rattle.steps.proofs.wear_at.Statement.{statement}
+use Rattle.steps.proofs.wear_at.Tie as tie
 
 returns : tie.Need-returns
 unfolding page
 returns c =
-    let a = c .before .before .before .before .before .args in
-    let n = c .before .before .size in
-    let o = c .before .before .before .start in
-    c .wear-or .ensures
-    ∙ ap (λ (bytes : List ℕ). or-value (wear-in (a .form .edition) (words bytes)) (a .other))
-    (part-is (as-form (a .form)) (a .page) (now (a .image)) (o .result) (n .result) (o .ensures .0) (n .ensures))
+    let a = c.before.before.before.before.before.args in
+    let n = c.before.before.size in
+    let o = c.before.before.before.start in
+    c.wear-or.ensures
+    ∙ ap (λ (bytes : List ℕ). or_value (wear_in a.form.edition (words bytes)) a.other)
+    (part_is (as_form a.form) a.page a.image.now o.result n.result o.ensures.0 n.ensures)
 
-start-requires : tie.Need-start-requires
-start-requires c κs = search needs
+start_requires : tie.Need-start-requires
+start_requires c κs = search rules
 
-size-requires : tie.Need-size-requires
-size-requires c κs = search needs
+size_requires : tie.Need-size-requires
+size_requires c κs = search rules
 
-add-end : tie.Need-add-end
-add-end c = search needs
+add_end : tie.Need-overflow-add-end
+add_end c = search rules
 
-sub-wear-or : tie.Need-sub-wear-or
-sub-wear-or c = search needs
+sub_wear_or : tie.Need-overflow-sub-wear-or
+sub_wear_or c = search rules
 
-part-wear-or-start : tie.Need-part-wear-or-start
-part-wear-or-start c = search needs
+part_wear_or_start : tie.Need-slice-bounds-wear-or-start
+part_wear_or_start c = search rules
 
-part-wear-or-end : tie.Need-part-wear-or-end
-part-wear-or-end c = search needs
+part_wear_or_end : tie.Need-slice-bounds-wear-or-end
+part_wear_or_end c = search rules
 
-wear-or-requires : tie.Need-wear-or-requires
-wear-or-requires c κs = search needs
+wear_or_requires : tie.Need-wear-or-requires
+wear_or_requires c κs = search rules
 
-pub wear-at-spec : {M : Type 1} → statement M
-wear-at-spec =
-    tie.close (tie.spec start-requires size-requires add-end sub-wear-or part-wear-or-start part-wear-or-end wear-or-requires returns)
+pub wear_at_spec : {M : Type 1} → statement M
+wear_at_spec =
+    tie.close (tie.spec start_requires size_requires add_end sub_wear_or part_wear_or_start part_wear_or_end wear_or_requires returns)

@@ -1,22 +1,22 @@
 -- `store::number_of` meets its contract. Assumes nothing.
-use mathlib.Core.Path.{sym, _∙_}
-use borrow.Author.Needs.{needs}
+use mathlib.Core.Path.{sym, ◌∙◌}
+use borrow.Author.Rules.{rules}
 use borrow.Author.Tests.{lt-ltb, le-ltb}
-use Rattle·rules.proofs.Answers.{then-refused, then-ok}
-use Rattle·store·proofs.proofs.Opening.{with-held-then}
-use Rattle·store·proofs.proofs.number_of.Statement.{statement}
-use Rattle·store·proofs.proofs.number_of.Tie as tie
+use Rattle.rules.proofs.Answers.{then_refused, then_ok}
+use Rattle.store.proofs.Opening.{with_held_then}
+use Rattle.store.proofs.number_of.Statement.{statement}
+use Rattle.store.proofs.number_of.Tie as tie
 
 returns : tie.Need-returns
-returns c = let a = c .before .args in sym (with-held-then (a .number) (a .held) ∙ then-refused (a .number) _ (search needs))
+returns c = let a = c.before.args in sym (with_held_then a.number a.held ∙ then_refused a.number _ (search rules))
 
-returns-2 : tie.Need-returns-2
-returns-2 c =
-    let a = c .before .before .args in rw (with-held-then (a .number) (a .held), then-ok (a .number) _ (search needs), lt-ltb 192 (a .held) (search needs))
+returns_2 : tie.Need-returns-2
+returns_2 c =
+    let a = c.before.before.args in rw (with_held_then a.number a.held, then_ok a.number _ (search rules), lt-ltb 192 a.held (search rules))
 
-returns-3 : tie.Need-returns-3
-returns-3 c =
-    let a = c .before .before .args in rw (with-held-then (a .number) (a .held), then-ok (a .number) _ (search needs), le-ltb 192 (a .held) (search needs))
+returns_3 : tie.Need-returns-3
+returns_3 c =
+    let a = c.before.before.args in rw (with_held_then a.number a.held, then_ok a.number _ (search rules), le-ltb 192 a.held (search rules))
 
-pub number-of-spec : {M : Type 1} → statement M
-number-of-spec = tie.close (tie.spec returns returns-2 returns-3)
+pub number_of_spec : {M : Type 1} → statement M
+number_of_spec = tie.close (tie.spec returns returns_2 returns_3)

@@ -1,15 +1,15 @@
 -- `words::checked` meets its contract. Assumes nothing.
-use borrow.Author.Needs.{needs}
-use Rattle·rules.specs.Word.{checked}
-use Rattle·words·proofs.proofs.checked.Statement.{statement}
-use Rattle·words·proofs.proofs.checked.Tie as tie
+use borrow.Author.Rules.{rules}
+use Rattle.rules.specs.Word.{checked}
+use Rattle.words.proofs.checked.Statement.{statement}
+use Rattle.words.proofs.checked.Tie as tie
 
-check-requires : tie.Need-check-requires
-check-requires c κs = search needs
+check_requires : tie.Need-check-requires
+check_requires c κs = search rules
 
 returns : tie.Need-returns
 unfolding checked
-returns c = search needs
+returns c = search rules
 
-pub checked-spec : {M : Type 1} → statement M
-checked-spec = tie.close (tie.spec check-requires returns)
+pub checked_spec : {M : Type 1} → statement M
+checked_spec = tie.close (tie.spec check_requires returns)

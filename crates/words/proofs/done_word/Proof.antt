@@ -1,21 +1,21 @@
 -- `words::done_word` meets its contract. Assumes nothing.
-use borrow.Author.Needs.{needs}
-use Rattle·rules.specs.Word.{done-word}
-use Rattle·words·proofs.proofs.done_word.Statement.{statement}
-use Rattle·words·proofs.proofs.done_word.Tie as tie
+use borrow.Author.Rules.{rules}
+use Rattle.rules.specs.Word.{done_word}
+use Rattle.words.proofs.done_word.Statement.{statement}
+use Rattle.words.proofs.done_word.Tie as tie
 
-mul-number-word : tie.Need-mul-number-word
-mul-number-word c = search needs
+mul_number_word : tie.Need-overflow-mul-number-word
+mul_number_word c = search rules
 
-add-number-word : tie.Need-add-number-word
-add-number-word c = search needs
+add_number_word : tie.Need-overflow-add-number-word
+add_number_word c = search rules
 
-number-word-requires : tie.Need-number-word-requires
-number-word-requires c κs = search needs
+number_word_requires : tie.Need-number-word-requires
+number_word_requires c κs = search rules
 
 returns : tie.Need-returns
-unfolding done-word
-returns c = search needs
+unfolding done_word
+returns c = search rules
 
-pub done-word-spec : {M : Type 1} → statement M
-done-word-spec = tie.close (tie.spec mul-number-word add-number-word number-word-requires returns)
+pub done_word_spec : {M : Type 1} → statement M
+done_word_spec = tie.close (tie.spec mul_number_word add_number_word number_word_requires returns)

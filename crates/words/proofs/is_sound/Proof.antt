@@ -1,15 +1,15 @@
 -- `words::is_sound` meets its contract. Assumes nothing.
-use borrow.Author.Needs.{needs}
-use Rattle·rules.specs.Word.{sound}
-use Rattle·words·proofs.proofs.is_sound.Statement.{statement}
-use Rattle·words·proofs.proofs.is_sound.Tie as tie
+use borrow.Author.Rules.{rules}
+use Rattle.rules.specs.Word.{sound}
+use Rattle.words.proofs.is_sound.Statement.{statement}
+use Rattle.words.proofs.is_sound.Tie as tie
 
-check-requires : tie.Need-check-requires
-check-requires c κs = search needs
+check_requires : tie.Need-check-requires
+check_requires c κs = search rules
 
 returns : tie.Need-returns
 unfolding sound
-returns c = rw (c .before .check .ensures .0)
+returns c = rw c.before.check.ensures.0
 
-pub is-sound-spec : {M : Type 1} → statement M
-is-sound-spec = tie.close (tie.spec check-requires returns)
+pub is_sound_spec : {M : Type 1} → statement M
+is_sound_spec = tie.close (tie.spec check_requires returns)

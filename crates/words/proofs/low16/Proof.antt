@@ -1,24 +1,24 @@
 -- `words::low16` meets its contract. Assumes nothing.
-use borrow.Author.Needs.{needs}
-use Rattle·rules.specs.Word.{low16}
-use Rattle·words·proofs.proofs.low16.Statement.{statement}
-use Rattle·words·proofs.proofs.low16.Tie as tie
+use borrow.Author.Rules.{rules}
+use Rattle.rules.specs.Word.{low16}
+use Rattle.words.proofs.low16.Statement.{statement}
+use Rattle.words.proofs.low16.Tie as tie
 
-cast-result : tie.Need-cast-result
-cast-result c = search needs
+cast_result : tie.Need-overflow-cast-result
+cast_result c = search rules
 
-cast-result-2 : tie.Need-cast-result-2
-cast-result-2 c = search needs
+cast_result_2 : tie.Need-overflow-cast-result-2
+cast_result_2 c = search rules
 
-mul-result : tie.Need-mul-result
-mul-result c = search needs
+mul_result : tie.Need-overflow-mul-result
+mul_result c = search rules
 
-add-result : tie.Need-add-result
-add-result c = search needs
+add_result : tie.Need-overflow-add-result
+add_result c = search rules
 
 returns : tie.Need-returns
 unfolding low16
-returns c = search needs
+returns c = search rules
 
-pub low16-spec : {M : Type 1} → statement M
-low16-spec = tie.close (tie.spec cast-result cast-result-2 mul-result add-result returns)
+pub low16_spec : {M : Type 1} → statement M
+low16_spec = tie.close (tie.spec cast_result cast_result_2 mul_result add_result returns)

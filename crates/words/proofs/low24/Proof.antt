@@ -1,33 +1,33 @@
 -- `words::low24` meets its contract. Assumes nothing.
-use borrow.Author.Needs.{needs}
-use Rattle·rules.specs.Word.{low24}
-use Rattle·words·proofs.proofs.low24.Statement.{statement}
-use Rattle·words·proofs.proofs.low24.Tie as tie
+use borrow.Author.Rules.{rules}
+use Rattle.rules.specs.Word.{low24}
+use Rattle.words.proofs.low24.Statement.{statement}
+use Rattle.words.proofs.low24.Tie as tie
 
-cast-result : tie.Need-cast-result
-cast-result c = search needs
+cast_result : tie.Need-overflow-cast-result
+cast_result c = search rules
 
-cast-result-2 : tie.Need-cast-result-2
-cast-result-2 c = search needs
+cast_result_2 : tie.Need-overflow-cast-result-2
+cast_result_2 c = search rules
 
-mul-result : tie.Need-mul-result
-mul-result c = search needs
+mul_result : tie.Need-overflow-mul-result
+mul_result c = search rules
 
-add-result : tie.Need-add-result
-add-result c = search needs
+add_result : tie.Need-overflow-add-result
+add_result c = search rules
 
-cast-result-3 : tie.Need-cast-result-3
-cast-result-3 c = search needs
+cast_result_3 : tie.Need-overflow-cast-result-3
+cast_result_3 c = search rules
 
-mul-result-2 : tie.Need-mul-result-2
-mul-result-2 c = search needs
+mul_result_2 : tie.Need-overflow-mul-result-2
+mul_result_2 c = search rules
 
-add-result-2 : tie.Need-add-result-2
-add-result-2 c = search needs
+add_result_2 : tie.Need-overflow-add-result-2
+add_result_2 c = search rules
 
 returns : tie.Need-returns
 unfolding low24
-returns c = search needs
+returns c = search rules
 
-pub low24-spec : {M : Type 1} → statement M
-low24-spec = tie.close (tie.spec cast-result cast-result-2 mul-result add-result cast-result-3 mul-result-2 add-result-2 returns)
+pub low24_spec : {M : Type 1} → statement M
+low24_spec = tie.close (tie.spec cast_result cast_result_2 mul_result add_result cast_result_3 mul_result_2 add_result_2 returns)

@@ -1,24 +1,24 @@
 -- `words::number_word` meets its contract. Assumes nothing.
-use borrow.Author.Needs.{needs}
-use Rattle·rules.specs.Word.{number-word}
-use Rattle·words·proofs.proofs.number_word.Statement.{statement}
-use Rattle·words·proofs.proofs.number_word.Tie as tie
+use borrow.Author.Rules.{rules}
+use Rattle.rules.specs.Word.{number_word}
+use Rattle.words.proofs.number_word.Statement.{statement}
+use Rattle.words.proofs.number_word.Tie as tie
 
-cast-checked : tie.Need-cast-checked
-cast-checked c = search needs
+cast_checked : tie.Need-overflow-cast-checked
+cast_checked c = search rules
 
-cast-checked-2 : tie.Need-cast-checked-2
-cast-checked-2 c = search needs
+cast_checked_2 : tie.Need-overflow-cast-checked-2
+cast_checked_2 c = search rules
 
-cast-checked-3 : tie.Need-cast-checked-3
-cast-checked-3 c = search needs
+cast_checked_3 : tie.Need-overflow-cast-checked-3
+cast_checked_3 c = search rules
 
-checked-requires : tie.Need-checked-requires
-checked-requires c κs = search needs
+checked_requires : tie.Need-checked-requires
+checked_requires c κs = search rules
 
 returns : tie.Need-returns
-unfolding number-word
-returns c = search needs
+unfolding number_word
+returns c = search rules
 
-pub number-word-spec : {M : Type 1} → statement M
-number-word-spec = tie.close (tie.spec cast-checked cast-checked-2 cast-checked-3 checked-requires returns)
+pub number_word_spec : {M : Type 1} → statement M
+number_word_spec = tie.close (tie.spec cast_checked cast_checked_2 cast_checked_3 checked_requires returns)

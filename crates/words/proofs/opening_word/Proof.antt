@@ -1,21 +1,21 @@
 -- `words::opening_word` meets its contract. Assumes nothing.
-use borrow.Author.Needs.{needs}
-use Rattle·rules.specs.Word.{opening-word}
-use Rattle·words·proofs.proofs.opening_word.Statement.{statement}
-use Rattle·words·proofs.proofs.opening_word.Tie as tie
+use borrow.Author.Rules.{rules}
+use Rattle.rules.specs.Word.{opening_word}
+use Rattle.words.proofs.opening_word.Statement.{statement}
+use Rattle.words.proofs.opening_word.Tie as tie
 
-mul-number-word : tie.Need-mul-number-word
-mul-number-word c = search needs
+mul_number_word : tie.Need-overflow-mul-number-word
+mul_number_word c = search rules
 
-add-number-word : tie.Need-add-number-word
-add-number-word c = search needs
+add_number_word : tie.Need-overflow-add-number-word
+add_number_word c = search rules
 
-number-word-requires : tie.Need-number-word-requires
-number-word-requires c κs = search needs
+number_word_requires : tie.Need-number-word-requires
+number_word_requires c κs = search rules
 
 returns : tie.Need-returns
-unfolding opening-word
-returns c = search needs
+unfolding opening_word
+returns c = search rules
 
-pub opening-word-spec : {M : Type 1} → statement M
-opening-word-spec = tie.close (tie.spec mul-number-word add-number-word number-word-requires returns)
+pub opening_word_spec : {M : Type 1} → statement M
+opening_word_spec = tie.close (tie.spec mul_number_word add_number_word number_word_requires returns)

@@ -1,21 +1,21 @@
 -- `words::wear_word` meets its contract. Assumes nothing.
-use borrow.Author.Needs.{needs}
-use Rattle·rules.specs.Word.{wear-word}
-use Rattle·words·proofs.proofs.wear_word.Statement.{statement}
-use Rattle·words·proofs.proofs.wear_word.Tie as tie
+use borrow.Author.Rules.{rules}
+use Rattle.rules.specs.Word.{wear_word}
+use Rattle.words.proofs.wear_word.Statement.{statement}
+use Rattle.words.proofs.wear_word.Tie as tie
 
-cast-checked : tie.Need-cast-checked
-cast-checked c = search needs
+cast_checked : tie.Need-overflow-cast-checked
+cast_checked c = search rules
 
-cast-checked-2 : tie.Need-cast-checked-2
-cast-checked-2 c = search needs
+cast_checked_2 : tie.Need-overflow-cast-checked-2
+cast_checked_2 c = search rules
 
-checked-requires : tie.Need-checked-requires
-checked-requires c κs = search needs
+checked_requires : tie.Need-checked-requires
+checked_requires c κs = search rules
 
 returns : tie.Need-returns
-unfolding wear-word
-returns c = search needs
+unfolding wear_word
+returns c = search rules
 
-pub wear-word-spec : {M : Type 1} → statement M
-wear-word-spec = tie.close (tie.spec cast-checked cast-checked-2 checked-requires returns)
+pub wear_word_spec : {M : Type 1} → statement M
+wear_word_spec = tie.close (tie.spec cast_checked cast_checked_2 checked_requires returns)

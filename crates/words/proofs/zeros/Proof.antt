@@ -1,29 +1,29 @@
 -- `words::zeros` meets its contract. Assumes nothing.
 use native.Mathlib.Omega.{arith}
-use borrow.Author.Needs.{needs}
-use Rattle·words·proofs.proofs.Table.{table, by-table, two-looks}
-use Rattle·words·proofs.proofs.zeros.Statement.{statement}
-use Rattle·words·proofs.proofs.zeros.Tie as tie
+use borrow.Author.Rules.{rules}
+use Rattle.words.proofs.Table.{table, by_table, two_looks}
+use Rattle.words.proofs.zeros.Statement.{statement}
+use Rattle.words.proofs.zeros.Tie as tie
 
-cast-result : tie.Need-cast-result
-cast-result c = search needs
+cast_result : tie.Need-overflow-cast-result
+cast_result c = search rules
 
-array-read-result : tie.Need-array-read-result
-array-read-result c = search needs
+array_read_result : tie.Need-array-read-result
+array_read_result c = search rules
 
-cast-result-2 : tie.Need-cast-result-2
-cast-result-2 c = search needs
+cast_result_2 : tie.Need-overflow-cast-result-2
+cast_result_2 c = search rules
 
-array-read-result-2 : tie.Need-array-read-result-2
-array-read-result-2 c = search needs
+array_read_result_2 : tie.Need-array-read-result-2
+array_read_result_2 c = search rules
 
 returns : tie.Need-returns
-unfolding by-table table
-returns c = two-looks (c .args .b) (omega arith)
+unfolding by_table table
+returns c = two_looks c.args.b (omega arith)
 
-add-result : tie.Need-add-result
-unfolding by-table table
-add-result c = omega (arith, two-looks (c .args .b) (omega arith) .1)
+add_result : tie.Need-overflow-add-result
+unfolding by_table table
+add_result c = omega (arith, (two_looks c.args.b (omega arith)).1)
 
-pub zeros-spec : {M : Type 1} → statement M
-zeros-spec = tie.close (tie.spec cast-result array-read-result cast-result-2 array-read-result-2 add-result returns)
+pub zeros_spec : {M : Type 1} → statement M
+zeros_spec = tie.close (tie.spec cast_result array_read_result cast_result_2 array_read_result_2 add_result returns)

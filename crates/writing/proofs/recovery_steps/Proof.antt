@@ -1,29 +1,29 @@
 -- `writing::recovery_steps` meets its contract. Assumes nothing.
 use native.Mathlib.Omega.{arith}
-use borrow.Author.Needs.{needs}
-use Rattle·writing·proofs.proofs.recovery_steps.Statement.{statement}
-use Rattle·writing·proofs.proofs.recovery_steps.Tie as tie
+use borrow.Author.Rules.{rules}
+use Rattle.writing.proofs.recovery_steps.Statement.{statement}
+use Rattle.writing.proofs.recovery_steps.Tie as tie
 
-cast-result : tie.Need-cast-result
-cast-result c = search needs
+cast_result : tie.Need-overflow-cast-result
+cast_result c = search rules
 
-mul-result : tie.Need-mul-result
-mul-result c = search needs
+mul_result : tie.Need-overflow-mul-result
+mul_result c = search rules
 
-add-result : tie.Need-add-result
-add-result c = search needs
+add_result : tie.Need-overflow-add-result
+add_result c = search rules
 
 returns : tie.Need-returns
-returns c = rw (c .if1 .taken)
+returns c = rw c.if1.true
 
-cast-result-2 : tie.Need-cast-result-2
-cast-result-2 c = search needs
+cast_result_2 : tie.Need-overflow-cast-result-2
+cast_result_2 c = search rules
 
-mul-result-2 : tie.Need-mul-result-2
-mul-result-2 c = search needs
+mul_result_2 : tie.Need-overflow-mul-result-2
+mul_result_2 c = search rules
 
-returns-2 : tie.Need-returns-2
-returns-2 c = rw (c .if1 .left) (omega arith)
+returns_2 : tie.Need-returns-2
+returns_2 c = rw c.if1.false (omega arith)
 
-pub recovery-steps-spec : {M : Type 1} → statement M
-recovery-steps-spec = tie.close (tie.spec cast-result mul-result add-result returns cast-result-2 mul-result-2 returns-2)
+pub recovery_steps_spec : {M : Type 1} → statement M
+recovery_steps_spec = tie.close (tie.spec cast_result mul_result add_result returns cast_result_2 mul_result_2 returns_2)

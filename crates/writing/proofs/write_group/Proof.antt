@@ -1,20 +1,19 @@
 -- `writing::write_group` meets its contract. Assumes nothing.
-use denote.Ref.{now}
-use borrow.Author.Needs.{needs}
-use Rattle·choosing.specs.Way.{change-of}
-use Rattle·writing·proofs.proofs.Ways.{with-marks}
-use Rattle·writing·proofs.proofs.write_group.Statement.{statement}
-use Rattle·writing·proofs.proofs.write_group.Tie as tie
+use borrow.Author.Rules.{rules}
+use Rattle.choosing.specs.Way.{change_of}
+use Rattle.writing.proofs.Ways.{with_marks}
+use Rattle.writing.proofs.write_group.Statement.{statement}
+use Rattle.writing.proofs.write_group.Tie as tie
 
-change-requires : tie.Need-change-requires
-change-requires c κs = let s = c .before .before .before in (s .pre, with-marks (now (s .args .entries)))
+change_requires : tie.Need-change-requires
+change_requires c κs = let s = c.before.before.before in (s.requires, with_marks s.args.entries.now)
 
-same-length : tie.Need-same-length
-same-length c = search needs
+same_length : tie.Need-same-length
+same_length c = search rules
 
 returns : tie.Need-returns
-unfolding change-of
-returns c = c .before .before .change .ensures
+unfolding change_of
+returns c = c.before.before.change.ensures
 
-pub write-group-spec : {M : Type 1} → statement M
-write-group-spec = tie.close (tie.spec change-requires same-length returns)
+pub write_group_spec : {M : Type 1} → statement M
+write_group_spec = tie.close (tie.spec change_requires same_length returns)

@@ -1,14 +1,14 @@
 -- `choosing::Known::with_new` meets its contract. Assumes nothing.
 use mathlib.Core.Path.{refl}
-use borrow.Author.Needs.{needs}
-use Rattle·choosing·proofs.proofs.Known.with_new.Statement.{statement}
-use Rattle·choosing·proofs.proofs.Known.with_new.Tie as tie
+use borrow.Author.Rules.{rules}
+use Rattle.choosing.proofs.Known.with_new.Statement.{statement}
+use Rattle.choosing.proofs.Known.with_new.Tie as tie
 
-add-t2 : tie.Need-add-t2
-add-t2 c = search needs
+add_t2 : tie.Need-overflow-add-t2
+add_t2 c = search rules
 
 returns : tie.Need-returns
 returns c = (refl, refl)
 
-pub with-new-spec : {M : Type 1} → statement M
-with-new-spec = tie.close (tie.spec add-t2 returns)
+pub with_new_spec : {M : Type 1} → statement M
+with_new_spec = tie.close (tie.spec add_t2 returns)

@@ -1,19 +1,19 @@
 -- `groups::Place::opened` meets its contract. Assumes nothing.
-use borrow.Author.Needs.{needs}
-use Rattle·groups·proofs.proofs.Place.opened.Statement.{statement}
-use Rattle·groups·proofs.proofs.Place.opened.Tie as tie
+use borrow.Author.Rules.{rules}
+use Rattle.groups.proofs.Place.opened.Statement.{statement}
+use Rattle.groups.proofs.Place.opened.Tie as tie
 
-at-requires : tie.Need-at-requires
-at-requires c κs = search needs
+at_requires : tie.Need-at-requires
+at_requires c κs = search rules
 
 returns : tie.Need-returns
-returns c = let at = c .at .ensures in (λ out. at .0, λ within. absurd (within (c .before .if1 .taken)), at .1)
+returns c = let at = c.at.ensures in (λ out. at.0, λ within. absurd (within c.before.if1.true), at.1)
 
-at-requires-2 : tie.Need-at-requires-2
-at-requires-2 c κs = search needs
+at_requires_2 : tie.Need-at-requires-2
+at_requires_2 c κs = search rules
 
-returns-2 : tie.Need-returns-2
-returns-2 c = search needs
+returns_2 : tie.Need-returns-2
+returns_2 c = search rules
 
-pub opened-spec : {M : Type 1} → statement M
-opened-spec = tie.close (tie.spec at-requires returns at-requires-2 returns-2)
+pub opened_spec : {M : Type 1} → statement M
+opened_spec = tie.close (tie.spec at_requires returns at_requires_2 returns_2)
