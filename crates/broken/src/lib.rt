@@ -1,4 +1,7 @@
 // The words that broke (L6): how many slots of the used pages are half-written, and how many are spoiled.
+
+#![tactic(auto)]
+
 ghost use Rattle.std.specs.Prelude.{◌≡◌, List, [], ◌∷◌, map, ◌+◌, ◌*◌, ◌≤◌, length};
 ghost use Rattle.rules.specs.Word.{Word as Bytes, words, slot};
 ghost use Rattle.rules.specs.Store.{Place as Standing, outside};

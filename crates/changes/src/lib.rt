@@ -1,4 +1,7 @@
 // The settings of a change, lent as bytes (C1): three for each, its address, low byte first, and its value.
+
+#![tactic(auto)]
+
 ghost use Rattle.std.specs.Prelude.{◌≡◌, map, ◌+◌, ◌*◌, ◌≤◌, length, drop};
 ghost use Rattle.rules.specs.Store.{address_of};
 ghost use Rattle.rules.specs.Owner.{named_owner, a_foreign};

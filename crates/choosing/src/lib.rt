@@ -1,4 +1,7 @@
 // What a write does, chosen by what one look told: the way of a write, or the first test that refuses it.
+
+#![tactic(auto)]
+
 ghost use Rattle.std.specs.Prelude.{◌≡◌, false, cond, ◌||◌, List, ℕ, ◌+◌, ◌≤◌, ◌<◌, length};
 ghost use Rattle.rules.specs.Page.{Page};
 ghost use Rattle.rules.specs.Store.{Setting, better, index, settings};

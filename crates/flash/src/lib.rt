@@ -1,5 +1,8 @@
 // The two steps, program and erase (F3): no other function changes an image. Each works on the part that is
 // lent to it at its offset.
+
+#![tactic(auto)]
+
 ghost use Rattle.std.specs.Prelude.{◌≡◌, [], ◌∷◌, ◌+◌, ◌≤◌, length, take, drop, replicate};
 ghost use Rattle.std.proofs.lemmas.List.Edits.{sets};
 

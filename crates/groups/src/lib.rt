@@ -1,4 +1,7 @@
 // Where a slot stands in its page (S11, S12): outside a group, in one whose records may still count, or in one that is lost.
+
+#![tactic(auto)]
+
 ghost use Rattle.std.specs.Prelude.{◌≡◌, List, [], ◌∷◌, ◌++◌, ◌+◌, ◌≤◌, length};
 ghost use Rattle.rules.specs.Word.{Word};
 ghost use Rattle.rules.specs.Store.{Place as Standing, outside, behind};

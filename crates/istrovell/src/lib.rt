@@ -1,5 +1,8 @@
 // The library for C and Rust: the seven calls under their exported names. Each takes any image, any page size, either owner and any numbers, and
 // its contract fixes every answer and every byte of the image after it; include/istrovell.h tells a firmware engineer the same.
+
+#![tactic(auto)]
+
 ghost use Rattle.istrovell.specs.Demands.{Formats, Recovers, Writes, WritesGroup, Reads, BlankReads, LooksUp};
 
 use pages::Named;

@@ -1,5 +1,8 @@
 // The listing of a store: its text, written into a buffer that is lent. Each function appends at a place and gives the place
 // behind what it wrote.
+
+#![tactic(auto)]
+
 ghost use Rattle.std.specs.Prelude.{List, [], ◌∷◌, ◌++◌, ◌+◌, ◌*◌, ◌≤◌, ◌<◌, length};
 ghost use Rattle.rules.specs.Store.{Setting, setting};
 ghost use Rattle.rules.specs.Listing.{decimal, text_refused, line_end, setting_line, setting_lines, listing};

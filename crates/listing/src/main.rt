@@ -1,4 +1,7 @@
 // Prints the listing of the image that standard input holds (L1).
+
+#![tactic(auto)]
+
 ghost use Rattle.std.specs.Prelude.{◌≤◌, length};
 ghost use Rattle.rules.specs.Call.{form_of};
 ghost use Rattle.rules.specs.Listing.{listing};

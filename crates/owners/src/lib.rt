@@ -1,4 +1,7 @@
 // The two programs that share a store (S14): which addresses each owns, and how many it may come to hold.
+
+#![tactic(auto)]
+
 ghost use Rattle.std.specs.Prelude.{◌≡◌, Bool};
 ghost use Rattle.rules.specs.Owner.{named_owner};
 

@@ -1,4 +1,7 @@
 // The state of one page (P4 to P8). A page is lent as the part of the image that it is.
+
+#![tactic(auto)]
+
 ghost use Rattle.std.specs.Prelude.{◌≡◌, ◌*◌, ◌/◌, ◌≤◌, ◌<◌, length, cond};
 ghost use Rattle.rules.specs.Word.{words};
 ghost use Rattle.rules.specs.Page.{size, in_edition, wear_part, is_wear, wear_in, is_opening, order_in, is_done, all_blank, state_after_wear, state};

@@ -1,4 +1,7 @@
 // The calls that leave the image as it is: read, blank read and pairing lookup. An image of any length and content is lawful.
+
+#![tactic(auto)]
+
 ghost use Rattle.std.specs.Prelude.{◌≡◌, List, ℕ, ◌≤◌, ◌<◌, length};
 ghost use Rattle.rules.specs.Store.{Setting, Rising, last_of};
 ghost use Rattle.rules.specs.Owner.{named_owner};

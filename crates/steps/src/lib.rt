@@ -1,5 +1,8 @@
 // Steps under an allowance: each function takes how many steps are left, does no more of its own, and gives how many are
 // left then. The image changes through the two functions of crate flash only, one call for each step.
+
+#![tactic(auto)]
+
 ghost use Rattle.std.specs.Prelude.{◌≡◌, map, ◌+◌, ◌-◌, ◌*◌, ◌≤◌, ◌<◌, max, length, take};
 ghost use Rattle.rules.specs.Flash.{AllAllowed, run};
 ghost use Rattle.rules.specs.Page.{word_count, size};

@@ -1,4 +1,7 @@
 // The store in an image: the one look that serves a call, at the headers of all pages and at the slots of the used ones.
+
+#![tactic(auto)]
+
 ghost use Rattle.std.specs.Prelude.{◌≡◌, [], ◌+◌, ◌*◌, ◌≤◌, length, take, ◌&&◌, leb};
 ghost use Rattle.rules.specs.Store.{put_all, records, in_group};
 ghost use Rattle.rules.specs.Page.{size};

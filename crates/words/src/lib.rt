@@ -1,4 +1,7 @@
 // Words of four bytes: the check, the makers and the readers, and what a word in a slot is (section W).
+
+#![tactic(auto)]
+
 ghost use Rattle.std.specs.Prelude.{◌≡◌, ◌+◌, ◌≤◌, ◌<◌, length, false};
 ghost use Rattle.rules.specs.Word.{Word as Bytes, zeros, check, sound, blank, second_blank, low16, low24, mark, slot};
 ghost use Rattle.rules.specs.Word.{checked, wear_word, number_word, opening_word, done_word, record_word, mark_word};

@@ -1,5 +1,8 @@
 // The calls that change the image: format, recovery, write and group write. An image of any length and content is lawful. It changes
 // through the two functions of crate flash only, one call for each step, in the order of the rules.
+
+#![tactic(auto)]
+
 ghost use Rattle.std.specs.Prelude.{◌≡◌, true, false, cond, [], ◌∷◌, ◌+◌, ◌*◌, ◌≤◌, ◌<◌, min, leb, length, take};
 ghost use Rattle.rules.specs.Flash.{AllAllowed};
 ghost use Rattle.rules.specs.Word.{mark_word};
