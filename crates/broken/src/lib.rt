@@ -20,7 +20,7 @@ use pages::Form;
 use survey::Look;
 use words::Slot;
 
-#[derive(Drop)]
+#[derive(Clone, Copy)]
 pub struct Broken {
     pub half: usize,
     pub spoiled: usize,

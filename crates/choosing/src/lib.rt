@@ -22,7 +22,7 @@ use survey::{ADDRESS, GROUP, NO_ROOM, OK, ORDER_END, OWNER, UNCLEAN};
 
 // Refuse by a number; stay, the values being held already; program the change at a page and from its slot there on; open a page
 // with an order; move to a page with an order.
-#[derive(Drop)]
+#[derive(Clone, Copy)]
 pub enum Way {
     Refuse(u8),
     Stay,
@@ -32,7 +32,7 @@ pub enum Way {
 }
 
 // A cleared page that may be taken; `spare` 0 says that there is none yet.
-#[derive(Drop)]
+#[derive(Clone, Copy)]
 pub struct Candidate {
     pub index: usize,
     pub spare: u32,
@@ -88,7 +88,7 @@ fn new_page(spares: &[u32; PAGES_MAX], cleared: usize, order: u32) -> Way
 }
 
 // What a table tells of a change: how many of its addresses are new, and whether all have their values.
-#[derive(Drop)]
+#[derive(Clone, Copy)]
 pub struct Known {
     pub new: usize,
     pub same: bool,

@@ -17,7 +17,7 @@ const LOST: usize = 9;
 
 // The number of the group that a slot stands in; and a slot, from which on all before it are records: in a group that is not lost,
 // it is the first behind the mark that opened the group.
-#[derive(Drop)]
+#[derive(Clone, Copy)]
 pub struct Place {
     pub number: usize,
     pub from: usize,

@@ -25,14 +25,14 @@ pub const ORDER_MAX: u32 = 4194303;
 pub const HEADER_SIZE: usize = 12;
 
 // The form of a store's pages: how many slots a page has behind its three header words, and the third byte of its wear word.
-#[derive(Drop)]
+#[derive(Clone, Copy)]
 pub struct Form {
     pub slots: usize,
     pub edition: u8,
 }
 
 // P1. A chip: how many slots its pages have, and the first and the last edition that they may be of.
-#[derive(Drop)]
+#[derive(Clone, Copy)]
 pub struct Chip {
     pub slots: usize,
     pub first: u8,
@@ -53,7 +53,7 @@ pub const LARGER: Chip = Chip {
 };
 
 // The chip that a page size names, if there is one.
-#[derive(Drop)]
+#[derive(Clone, Copy)]
 pub enum Named {
     Chip(Chip),
     Nothing,
@@ -114,7 +114,7 @@ impl Form {
 }
 
 // A cleared page has its wear, an open one of kind 1 or 2 its order.
-#[derive(Drop)]
+#[derive(Clone, Copy)]
 pub enum State {
     Cleared(u16),
     Open1(u32),

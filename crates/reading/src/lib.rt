@@ -15,14 +15,14 @@ use settings::{HELD_MAX, Held, NO_ADDRESS, NO_VALUE};
 use survey::{ADDRESS, NOT_HELD, OK, OWNER};
 
 #[repr(C)]
-#[derive(Drop)]
+#[derive(Clone, Copy)]
 pub struct Reading {
     pub number: u8,
     pub value: u8,
 }
 
 #[repr(C)]
-#[derive(Drop)]
+#[derive(Clone, Copy)]
 pub struct Pairing {
     pub number: u8,
     pub paired: bool,
@@ -95,7 +95,7 @@ pub fn blank_read(image: &[u8], form: Form, timer: bool, address: u16) -> Readin
 }
 
 // A digit of the pairing code: whether its address is held, and its blank read.
-#[derive(Drop)]
+#[derive(Clone, Copy)]
 struct Digit {
     held: bool,
     value: u8,

@@ -99,7 +99,7 @@ fn is_open(free: usize, slots: usize, group: bool) -> bool
 }
 
 // The answer 0 to 3, how many addresses are held, whether a group is open, and the look at the pages.
-#[derive(Drop)]
+#[derive(Clone, Copy)]
 pub struct Store {
     pub number: u8,
     pub held: usize,

@@ -104,7 +104,8 @@ module _ (e k' : ℕ) where
   all_behind : (p g i : ℕ) (F : Pages) → p < i → AllRenewed (told e F) (told e (others p g i F))
   unfolding AllRenewed renewed
   all_behind p g i [] l = tt
-  all_behind p g i (pg ∷ F) l = rw (is_other p i (λ z. omega arith)) (one_renewed g pg, all_behind p _ (suc i) F (omega arith))
+  all_behind p g i (pg ∷ F) l =
+      rw (is_other p i (λ z. omega arith)) (one_renewed g pg, all_behind p (max g (renewed_wear g (wear_in e pg))) (suc i) F (omega arith))
 
   record Amid (p g i : ℕ) (f : Pages) (pg : List Word) (r : Pages) : Type 0 where
     before : Pages

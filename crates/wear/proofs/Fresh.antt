@@ -1,6 +1,6 @@
 -- A finished format leaves a level store, every page of wear 1, and the slots of every page but one to be taken before a move. Assumes nothing.
-use Prim.Native.Nat.{ℕ, zero, suc, ◌-◌, ◌*◌, ◌≤◌, ◌<◌}
-use mathlib.Core.Path.{◌≡◌, refl, ap, ◌∙◌}
+use Prim.Native.Nat.{ℕ, zero, suc, ◌+◌, ◌-◌, ◌*◌, ◌≤◌, ◌<◌}
+use mathlib.Core.Path.{◌≡◌, refl, sym, ap, subst, ◌∙◌}
 use mathlib.Core.Bool.{false}
 use mathlib.Core.List.{List, []}
 use mathlib.Core.Option.{some}
@@ -94,7 +94,9 @@ module _ (c : Frame) where
         top = 1;
         least = omega arith;
         most = omega arith;
-        pages = rw (format_base c n) (used_page 1 first_worn (rw st (le-leb 0 0 (omega arith))) (omega arith) (omega arith), others_level n);
+        pages =
+            subst (λ (b : ℕ). AllLevelled b 1 1 ps) (sym (format_base c n))
+            (used_page 1 first_worn (rw st (le-leb 0 0 (omega arith))) (omega arith) (omega arith), others_level n);
         ended = and_second (has_room 1 ps) (all_ended n (active_index (states ps)));
       }
 
@@ -125,7 +127,9 @@ module _ (c : Frame) where
   -- the first page is of order 0, and every other one is cleared
   pub fresh_ahead : (n : ℕ) → ahead (fresh_pages n) ≡ n
   unfolding active_order used_orders add_order states used order greatest page count is_cleared
-  fresh_ahead n = rw (format_base c n, opened_state c, others_unused n) (omega (arith, others_cleared n))
+  fresh_ahead n =
+      subst (λ (b : ℕ). greatest (used_orders b (states (fresh_pages n))) + count is_cleared (states (fresh_pages n)) ≡ n) (sym (format_base c n))
+      (rw (opened_state c, others_unused n) (omega (arith, others_cleared n)))
 
   -- every page but the first is cleared, so the slots of all but one page are taken before a move
   pub format_gives : (n : ℕ) → 1 ≤ n → before_move s (fresh_pages n) ≡ n * s

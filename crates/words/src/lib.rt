@@ -10,7 +10,7 @@ ghost use Rattle.words.specs.Read.{as_word, as_slot, word_in};
 // W11. No record has this address.
 pub const NO_ADDRESS: u16 = 65535;
 
-#[derive(Drop)]
+#[derive(Clone, Copy)]
 pub struct Word {
     pub a: u8,
     pub b: u8,
@@ -148,7 +148,7 @@ pub fn low24(w: Word) -> u32
 }
 
 // What a word is in a slot: a record, a mark that opens or closes a group of so many records, or neither.
-#[derive(Drop)]
+#[derive(Clone, Copy)]
 pub enum Slot {
     Record,
     Opens(u8),

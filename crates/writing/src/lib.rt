@@ -23,7 +23,7 @@ use settings::{HELD_MAX, NO_ADDRESS, NO_VALUE};
 use survey::{OK, SIZE};
 
 #[repr(C)]
-#[derive(Drop)]
+#[derive(Clone, Copy)]
 pub struct Stepped {
     pub number: u8,
     pub finished: bool,
