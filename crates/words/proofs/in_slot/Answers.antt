@@ -1,0 +1,43 @@
+use mathlib.Core.Path.{◌≡◌, sym, ◌∙◌}
+use borrow.Author.Rules.{rules}
+use Rattle.rules.specs.Word.{Word, low16}
+use Rattle.rules.proofs.Conditions.{blank_told, sound_told, half_told, other_told}
+use Rattle.words.specs.Read.{as_word}
+use Rattle.words.proofs.in_slot.Goals as goal
+use Rattle.words.proofs.in_slot.Goals.{After-is_sound}
+
+-- a word with an address
+module _ (c : After-is_sound) where
+  abbrev word_there : Word
+  word_there = as_word c.args.w
+
+  addressed : low16 word_there ≡ 65535 → ⊥
+  addressed e = c.if-low16-eq-NO_ADDRESS.false (c.low16.ensures ∙ e)
+
+pub returns-then-is_blank : goal.returns-then-is_blank
+returns-then-is_blank c =
+    let a = c.args in
+    blank_told a.edition (as_word a.w) (sym c.is_blank.ensures ∙ c.if-is_blank.true)
+
+pub without_address-requires : goal.without_address-requires
+without_address-requires c = (
+  sym c.low16.ensures ∙ c.if-low16-eq-NO_ADDRESS.true,
+  sym c.is_blank.ensures ∙ c.if-is_blank.false,
+)
+
+pub returns-then-is_sound : goal.returns-then-is_sound
+returns-then-is_sound c =
+    let w = c.before in
+    sound_told w.args.edition (word_there w) (addressed w) (sym w.is_sound.ensures ∙ c.if-is_sound.true)
+
+pub returns-then-is_second_blank : goal.returns-then-is_second_blank
+returns-then-is_second_blank c =
+    let w = c.before.before.before in
+    half_told w.args.edition (word_there w) (addressed w) (sym w.is_sound.ensures ∙ c.if-is_sound.false)
+    (sym c.is_second_blank.ensures ∙ c.if-is_second_blank.true)
+
+pub returns : goal.returns
+returns c =
+    let w = c.before.before.before in
+    other_told w.args.edition (word_there w) (addressed w) (sym w.is_sound.ensures ∙ c.if-is_sound.false)
+    (sym c.is_second_blank.ensures ∙ c.if-is_second_blank.false)
