@@ -4,6 +4,6 @@ use Rattle.flash.proofs.erase_at.Goals as goal
 
 pub returns : goal.returns
 returns c =
-    let s = c.before.before.before.before.before in
+    let s = c in
     let e = c.erase in
     erased_sized s.args.at s.args.size s.args.image.now e.new.page s.requires e.ensures

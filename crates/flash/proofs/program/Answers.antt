@@ -13,7 +13,7 @@ long : (c : Start) → 2 ≤ length c.args.half.now
 long c = let blank : take 2 c.args.half.now ≡ 255 ∷ 255 ∷ [] = search rules in two_long c.args.half.now 255 255 blank
 
 pub bounds-half-0 : goal.bounds-half-0
-bounds-half-0 c = omega (arith, long c)
+bounds-half-0 c = omega (arith, long (goal.at.bounds-half-0 c).Start)
 
 pub bounds-half-1 : goal.bounds-half-1
-bounds-half-1 c = simp length-set (omega (arith, long c))
+bounds-half-1 c = simp length-set (omega (arith, long (goal.at.bounds-half-1 c).Start))

@@ -11,18 +11,18 @@ long : (s : Start) → s.args.at + 2 ≤ length s.args.image.now
 long s = two_past s.args.at s.args.image.now 255 255 s.requires
 
 pub slice_bounds-program-count : goal.slice_bounds-program-count
-slice_bounds-program-count c = omega (arith, long c.before)
+slice_bounds-program-count c = omega (arith, long (goal.at.slice_bounds-program-count c).Start)
 
 pub slice_bounds-program-start : goal.slice_bounds-program-start
-slice_bounds-program-start c = omega (arith, long c.before)
+slice_bounds-program-start c = omega (arith, long (goal.at.slice_bounds-program-start c).Start)
 
 pub program-requires : goal.program-requires
 program-requires c =
-    let s = c.before.before in
+    let s = c in
     may_program_rest s.args.at s.args.image.now 255 255 s.requires
 
 pub returns : goal.returns
 returns c =
-    let s = c.before.before.before.before.before in
+    let s = c in
     let p = c.program in
-    programmed_rest s.args.at s.args.image.now p.new.half s.args.low s.args.high (long s) p.ensures
+    programmed_rest s.args.at s.args.image.now p.new.half s.args.low s.args.high (long (goal.at.returns c).Start) p.ensures
