@@ -1,0 +1,6 @@
+use mathlib.Core.Path.{refl}
+use borrow.Author.Rules.{rules}
+use Rattle.choosing.proofs.Known.with_new.Goals as goal
+
+pub returns : goal.returns
+returns c = (refl, refl)

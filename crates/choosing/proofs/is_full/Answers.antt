@@ -1,0 +1,28 @@
+use native.Mathlib.Omega.{arith}
+use borrow.Author.Rules.{rules}
+use Rattle.rules.specs.Owner.{named_owner}
+use Rattle.choosing.proofs.Rooms.{none_new, too_many, by_owner}
+use Rattle.choosing.proofs.is_full.Goals as goal
+
+pub returns-then-new-eq0 : goal.returns-then-new-eq0
+returns-then-new-eq0 c = λ ps rs h is. none_new ps h (named_owner c.args.timer) rs is c.if-new-eq0.true
+
+pub overflow_add-held : goal.overflow_add-held
+overflow_add-held c = let p = c.requires in omega (arith, p.0.1.few, p.0.1.many, p.1)
+
+pub returns-then-held-new-gt-HELD_MAX : goal.returns-then-held-new-gt-HELD_MAX
+returns-then-held-new-gt-HELD_MAX c = λ ps rs h is. too_many ps h (named_owner c.args.timer) rs is (omega arith)
+
+pub held_by-requires : goal.held_by-requires
+held_by-requires c = c.requires.has
+
+pub overflow_add-result : goal.overflow_add-result
+overflow_add-result c = omega (arith, c.held_by.ensures.upper_bound, c.requires.bound)
+
+pub returns : goal.returns
+returns c =
+    let after2 = c in
+    let after1 = c in
+    let timer = after1.args.timer in
+    λ ps rs h is.
+    by_owner ps h (named_owner timer) rs is after1.if-new-eq0.false (omega arith) (c.most-most.ensures timer) (c.held_by.ensures.value ps h)

@@ -1,0 +1,23 @@
+use Prim.Native.Nat.{ℕ, ◌+◌, ◌-◌, ◌*◌, ◌≤◌}
+use mathlib.Core.Path.{◌≡◌, subst}
+use mathlib.Core.Bool.{false}
+use mathlib.Core.List.{List}
+use native.Mathlib.Omega.{arith}
+use lib.ListN.{length, take}
+use Rattle.rules.specs.Page.{Page}
+use Rattle.rules.specs.Store.{settings, Setting}
+use Rattle.rules.specs.Call.{a_wrong_address, triples}
+use Rattle.changes.proofs.Entries.{length_triples, all_entries}
+use Rattle.settings.specs.Held.{Holds, as_option}
+use Rattle.choosing.specs.declared.Known.{Known}
+use Rattle.choosing.specs.Known.{Knows}
+use Rattle.choosing.proofs.Telling.{found_value, knows_none, knows_more, new_few}
+use borrow.Author.Rules.{rules}
+use Rattle.choosing.proofs.told_of.Given as goal
+
+abbrev pub invariant-loop-k : goal.invariant-loop-k
+invariant-loop-k l =
+    (3 * l.k ≤ length l.entries) × (l.known.new ≤ l.k) × KnowsAny l.addresses l.values l.entries (take l.k (triples l.entries)) l.known
+
+abbrev pub decreases-loop-k : goal.decreases-loop-k
+decreases-loop-k l = l.count - l.k
