@@ -38,7 +38,7 @@ From c i = Opens (form c) i c.args.store c.args.addresses.now c.args.values.now
 
 -- the first tests are passed
 abbrev start : Else-number-ne-OK → Start
-start c = c.before.before.before
+start c = c.before.before.before.before
 
 module _ (c : Else-number-ne-OK) {i : List ℕ} (o : From (start c) i) where
   abbrev fm : Form
@@ -78,75 +78,85 @@ module _ (c : Else-number-ne-OK) {i : List ℕ} (o : From (start c) i) where
   short : length (start c).args.entries.now ≤ 26
   short = change_short fm.edition (start c).args.marks (start c).args.entries.now (start c).requires.lent (of_tests.grouped c.if-number-ne-OK.false)
 
+-- what was told before, where more is told
+abbrev tests : After-told_of-known → Else-number-ne-OK
+tests c = record { before = c.before.before; type_inv = record { entries = c.type_inv.entries } }
+
+abbrev asked : After-is_full → After-told_of-known
+asked f = record { before = f.before.before.before; type_inv = record { entries = f.type_inv.entries } }
+
+abbrev filled : Else-is_full → After-is_full
+filled g = record { before = g.before.before; type_inv = record { entries = g.type_inv.entries } }
+
 -- what the table told is so
-module _ (c : After-told_of-known) {i : List ℕ} (o : From (start c.before) i) where
+module _ (c : After-told_of-known) {i : List ℕ} (o : From (start (tests c)) i) where
   abbrev at : Form
-  at = fm c.before o
+  at = fm (tests c) o
 
   abbrev written : List Setting
-  written = settings_of (ch c.before o)
+  written = settings_of (ch (tests c) o)
 
-  knows : Knows (pages at i) (rs c.before o) c.told_of-known.result
+  knows : Knows (pages at i) (rs (tests c) o) c.told_of-known.result
   knows =
-      let z = right c.before o in
-      c.told_of-known.ensures.knows (pages at i) (start c.before).args.store.held (table_few o z) (o.holding z).holds
-      ((of_tests c.before o).addressed c.if-number-ne-OK.false)
+      let z = right (tests c) o in
+      c.told_of-known.ensures.knows (pages at i) (start (tests c)).args.store.held (table_few o z) (o.holding z).holds
+      ((of_tests (tests c) o).addressed c.if-number-ne-OK.false)
 
   same_is : all_values written (pages at i) ≡ c.told_of-known.result.same
-  same_is = ap (λ (qs : List Setting). all_values qs (pages at i)) (same_settings c.before o) ∙ sym knows.same
+  same_is = ap (λ (qs : List Setting). all_values qs (pages at i)) (same_settings (tests c) o) ∙ sym knows.same
 
   new_is : c.told_of-known.result.new ≡ new_in written (pages at i)
-  new_is = knows.new ∙ ap (λ (qs : List Setting). new_in qs (pages at i)) (sym (same_settings c.before o))
+  new_is = knows.new ∙ ap (λ (qs : List Setting). new_in qs (pages at i)) (sym (same_settings (tests c) o))
 
-  tabled : Has (start c.before).args.addresses.now (start c.before).args.store.held (pages at i)
+  tabled : Has (start (tests c)).args.addresses.now (start (tests c)).args.store.held (pages at i)
   tabled =
-      let z = right c.before o in
+      let z = right (tests c) o in
       let few = table_few o z in
       record { few = few; addresses = (o.holding z).holds.few_addresses few; many = held_is o z }
 
 -- there is something new, and whether there is room for it is known
-module _ (f : After-is_full) {i : List ℕ} (o : From (start f.before.before.before) i) where
-  abbrev told_first : After-is_full
-  told_first = f
+module _ (f : After-is_full) {i : List ℕ} (o : From (start (tests (asked f))) i) where
+  abbrev told_first : After-told_of-known
+  told_first = asked f
 
   abbrev full : Bool
   full =
       let ps = pages (at told_first o) i in
-      no_room (written told_first o) ps || crowded (by told_first.before o) (written told_first o) ps
+      no_room (written told_first o) ps || crowded (by (tests told_first) o) (written told_first o) ps
 
   room_is : full ≡ f.is_full.result
   room_is = sym (f.is_full.ensures (pages (at told_first o) i) (written told_first o) (tabled told_first o) (new_is told_first o))
 
   some_new : all_values (written told_first o) (pages (at told_first o) i) ≡ false
-  some_new = same_is told_first o ∙ f.if-known.left
+  some_new = same_is told_first o ∙ f.if-known.false
 
 -- there is room for it
-module _ (g : Else-is_full) {i : List ℕ} (o : From (start g.before.before.before.before) i) where
-  abbrev e : Else-is_full
-  e = g
+module _ (g : Else-is_full) {i : List ℕ} (o : From (start (tests (asked (filled g)))) i) where
+  abbrev e : Else-number-ne-OK
+  e = tests (asked (filled g))
 
   words_many : {n : ℕ} → n ≡ cond (start e).args.marks (length (rs e o) + 2) (length (rs e o)) → n ≡ length (words_of (ch e o))
   words_many h =
       h ∙ sym (change_many (fm e o).edition (start e).args.marks (start e).args.entries.now (start e).requires.lent
-      ((of_tests e o).grouped e.if-number-ne-OK.left))
+      ((of_tests e o).grouped e.if-number-ne-OK.false))
 
-  some_room : full g.before o ≡ false
-  some_room = room_is g.before o ∙ g.if-is_full.left
+  some_room : full (filled g) o ≡ false
+  some_room = room_is (filled g) o ∙ g.if-is_full.false
 
   programmed : (start e).args.store.look.free + length (words_of (ch e o)) ≤ (fm e o).slot_count
       → Chosen (fm e o) (by e o) (ch e o) i (Append (start e).args.store.look.active (start e).args.store.look.free)
   programmed l =
       let k = of_tests e o in
-      let z = e.if-number-ne-OK.left in
-      appends (told e o) (ok e o) (by e o) (ch e o) (k.clean z) (k.grouped z) (far e o) (own e o) (some_new g.before o) some_room l
+      let z = e.if-number-ne-OK.false in
+      appends (told e o) (ok e o) (by e o) (ch e o) (k.clean z) (k.grouped z) (far e o) (own e o) (some_new (filled g) o) some_room l
 
   opened : (fm e o).slot_count < (start e).args.store.look.free + length (words_of (ch e o)) → {r : Way}
       → r ≡ new_page_of (start e).args.store.look.spares (start e).args.store.look.cleared (start e).args.store.look.order
       → Chosen (fm e o) (by e o) (ch e o) i r
   opened l =
       let k = of_tests e o in
-      let z = e.if-number-ne-OK.left in
-      opens_page (told e o) (ok e o) (by e o) (ch e o) (k.clean z) (k.grouped z) (far e o) (own e o) (some_new g.before o) some_room l
+      let z = e.if-number-ne-OK.false in
+      opens_page (told e o) (ok e o) (by e o) (ch e o) (k.clean z) (k.grouped z) (far e o) (own e o) (some_new (filled g) o) some_room l
 
 pub first_tests-number-requires : goal.first_tests-number-requires
 first_tests-number-requires c =
@@ -157,11 +167,11 @@ first_tests-number-requires c =
 pub returns-then-number-ne-OK : goal.returns-then-number-ne-OK
 returns-then-number-ne-OK c =
     λ i o.
-    let s = c in
+    let s = (goal.at.returns-then-number-ne-OK c).Start in
     refused (form s) (owner s) (change s) i c.first_tests-number.result c.if-number-ne-OK.true ((c.first_tests-number.ensures i _ _ o).refused c.if-number-ne-OK.true)
 
 pub told_of-known-requires : goal.told_of-known-requires
-told_of-known-requires c = omega (arith, short (goal.at.told_of-known-requires c).Else-number-ne-OK (start c).requires.opened.opens)
+told_of-known-requires c = omega (arith, short (goal.at.told_of-known-requires c).Else-number-ne-OK (start (goal.at.told_of-known-requires c).Else-number-ne-OK).requires.opened.opens)
 
 pub returns-then-known : goal.returns-then-known
 returns-then-known c =
@@ -176,10 +186,10 @@ returns-then-known c =
 pub is_full-requires : goal.is_full-requires
 is_full-requires c =
     let t = c in
-    let o = (start t.before).requires.opened.opens in
+    let o = (start (goal.at.is_full-requires c).Else-number-ne-OK).requires.opened.opens in
     let new = t.told_of-known.ensures.result_in_bounds in
-    let few = length_triples (start t.before).args.entries.now in
-    record { has = (pages (at (goal.at.is_full-requires c).After-told_of-known o) (start t.before).requires.opened.image, tabled (goal.at.is_full-requires c).After-told_of-known o); bound = omega (arith, short (goal.at.is_full-requires c).Else-number-ne-OK o) }
+    let few = length_triples (start (goal.at.is_full-requires c).Else-number-ne-OK).args.entries.now in
+    record { has = (pages (at (goal.at.is_full-requires c).After-told_of-known o) (start (goal.at.is_full-requires c).Else-number-ne-OK).requires.opened.image, tabled (goal.at.is_full-requires c).After-told_of-known o); bound = omega (arith, short (goal.at.is_full-requires c).Else-number-ne-OK o) }
 
 pub returns-then-is_full : goal.returns-then-is_full
 returns-then-is_full c =
@@ -192,7 +202,7 @@ returns-then-is_full c =
     (write_full (fm (goal.at.returns-then-is_full c).Else-number-ne-OK o) (by (goal.at.returns-then-is_full c).Else-number-ne-OK o) (ch (goal.at.returns-then-is_full c).Else-number-ne-OK o) i (ok (goal.at.returns-then-is_full c).Else-number-ne-OK o) (k.clean z) (k.grouped z) (far (goal.at.returns-then-is_full c).Else-number-ne-OK o) (own (goal.at.returns-then-is_full c).Else-number-ne-OK o) (some_new (goal.at.returns-then-is_full c).After-is_full o) (room_is (goal.at.returns-then-is_full c).After-is_full o ∙ c.if-is_full.true))
 
 pub overflow_sub-form : goal.overflow_sub-form
-overflow_sub-form c = let e = c in (told (goal.at.overflow_sub-form c).Else-number-ne-OK (start e).requires.opened.opens).room
+overflow_sub-form c = let e = c in (told (goal.at.overflow_sub-form c).Else-number-ne-OK (start (goal.at.overflow_sub-form c).Else-number-ne-OK).requires.opened.opens).room
 
 pub returns-then-slots_of-form : goal.returns-then-slots_of-form
 returns-then-slots_of-form c =
@@ -205,7 +215,7 @@ returns-then-slots_of-form c =
 pub new_page-requires : goal.new_page-requires
 new_page-requires c =
     let e = c in
-    (told (goal.at.new_page-requires c).Else-number-ne-OK (start e).requires.opened.opens).fits
+    (told (goal.at.new_page-requires c).Else-number-ne-OK (start (goal.at.new_page-requires c).Else-number-ne-OK).requires.opened.opens).fits
 
 pub returns : goal.returns
 returns c =

@@ -8,7 +8,7 @@ pub returns-then-new-eq0 : goal.returns-then-new-eq0
 returns-then-new-eq0 c = λ ps rs h is. none_new ps h (named_owner c.args.timer) rs is c.if-new-eq0.true
 
 pub overflow_add-held : goal.overflow_add-held
-overflow_add-held c = let p = c.requires in omega (arith, p.0.1.few, p.0.1.many, p.1)
+overflow_add-held c = let p = c.requires in omega (arith, p.has.1.few, p.has.1.many, p.bound)
 
 pub returns-then-held-new-gt-HELD_MAX : goal.returns-then-held-new-gt-HELD_MAX
 returns-then-held-new-gt-HELD_MAX c = λ ps rs h is. too_many ps h (named_owner c.args.timer) rs is (omega arith)

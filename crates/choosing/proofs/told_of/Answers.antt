@@ -15,11 +15,6 @@ use Rattle.choosing.proofs.Telling.{found_value, knows_none, knows_more, new_few
 use borrow.Author.Rules.{rules}
 use Rattle.choosing.proofs.told_of.Goals as goal
 
--- whatever store the table is that of, it is known of these settings
-abbrev KnowsAny : (addresses values entries : List ℕ) → List Setting → Known → Type 0
-KnowsAny xs ys s rs known =
-    (ps : List Page) (held : ℕ) → length (settings ps) ≤ 192 → Holds xs ys held (settings ps) → a_wrong_address (triples s) ≡ false → Knows ps rs known
-
 pub loop-k-init : goal.loop-k-init
 loop-k-init c = (omega arith, omega arith, λ ps held l h r. knows_none c.args.entries.now ps)
 

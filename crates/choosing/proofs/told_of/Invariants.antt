@@ -15,6 +15,11 @@ use Rattle.choosing.proofs.Telling.{found_value, knows_none, knows_more, new_few
 use borrow.Author.Rules.{rules}
 use Rattle.choosing.proofs.told_of.Given as goal
 
+-- whatever store the table is that of, it is known of these settings
+abbrev pub KnowsAny : (addresses values entries : List ℕ) → List Setting → Known → Type 0
+KnowsAny xs ys s rs known =
+    (ps : List Page) (held : ℕ) → length (settings ps) ≤ 192 → Holds xs ys held (settings ps) → a_wrong_address (triples s) ≡ false → Knows ps rs known
+
 abbrev pub invariant-loop-k : goal.invariant-loop-k
 invariant-loop-k l =
     (3 * l.k ≤ length l.entries) × (l.known.new ≤ l.k) × KnowsAny l.addresses l.values l.entries (take l.k (triples l.entries)) l.known

@@ -6,13 +6,11 @@ use Rattle.choosing.proofs.Known.with.Goals as goal
 
 pub returns-then-held-value : goal.returns-then-held-value
 returns-then-held-value c =
-    let e = c.found.given in
-    same_value (ap as_option e.1) c.if-held-value.true
+    same_value (ap as_option c.in-Value.is) c.if-held-value.true
 
 pub returns-else-held-value : goal.returns-else-held-value
 returns-else-held-value c =
-    let e = c.found.given in
-    other_value (ap as_option e.1) c.if-held-value.false
+    other_value (ap as_option c.in-Value.is) c.if-held-value.false
 
 pub returns-in-Nothing : goal.returns-in-Nothing
 returns-in-Nothing c =
