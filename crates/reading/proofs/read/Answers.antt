@@ -63,7 +63,7 @@ module _ (c : After-owns) where
 -- what was found is the value that is held
 module _ (c : After-value_in) where
   abbrev after_owner : After-owns
-  after_owner = record { before = c.before.before.before.before.before; type_inv = record { values = c.type_inv.values; addresses = c.type_inv.addresses; image = c.type_inv.image } }
+  after_owner = record { before = c.before.before.before.before.before; type_inv = record { values = c.open-store.array_long2; addresses = c.open-store.array_long; image = c.type_inv.image } }
 
   abbrev after_tests : Else-address-eq-NO_ADDRESS
   after_tests = passed after_owner
