@@ -1,0 +1,10 @@
+use Rattle.choosing.specs.Way.{change_of}
+use Rattle.writing.proofs.Ways.{with_marks}
+use Rattle.writing.proofs.write_group.Goals as goal
+
+pub change-requires : goal.change-requires
+change-requires c = let s = c in (s.requires, with_marks s.args.entries.now)
+
+pub returns : goal.returns
+unfolding change_of
+returns c = c.change.ensures
