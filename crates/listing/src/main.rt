@@ -8,8 +8,12 @@ ghost use Rattle.rules.specs.Listing.{listing};
 ghost use Rattle.rules.specs.Named.{smaller_chip};
 ghost use Rattle.lines.specs.Appended.{Written};
 
-use libc::{STDIN_FILENO, STDOUT_FILENO};
 use pages::SMALLER;
+
+// The numbers by which the operating system knows a program's input and output.
+const STDIN_FILENO: i32 = 0;
+
+const STDOUT_FILENO: i32 = 1;
 
 // The listing of an image with pages of 1,024 bytes, read by its own edition (P10).
 fn list(image: &[u8], out: &mut [u8]) -> usize
