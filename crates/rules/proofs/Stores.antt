@@ -12,7 +12,7 @@ use borrow.Author.Tests.{le-leb, lt-leb, leb-true, leb-false, eqb-true, eqb-fals
 use Rattle.rules.specs.Page.{State, cleared, open₁, open₂, receiving, bad, Page}
 use Rattle.rules.specs.Store.{states, order₂, base, used, is_cleared, is_open, order, add_order, used_orders, greatest, is_active, index_of}
 use Rattle.rules.specs.Store.{add_page, used_pages, insert, oldest_first, Setting, each, records_in, all_records, count, Candidate}
-use Rattle.rules.specs.Store.{nobody, page, better, offered, least_worn, page_at}
+use Rattle.rules.specs.Store.{nobody, better, offered, least_worn, page_at}
 use Rattle.rules.specs.Steps.{unclean}
 use Rattle.rules.specs.Call.{among, repeats}
 use Rattle.rules.proofs.Truth.{is_false, by_cases, not_both, or_first, or_second, or_false_left, or_false_right}

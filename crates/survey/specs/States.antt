@@ -2,7 +2,7 @@
 use Rattle.std.specs.Prelude.{ℕ, ◌-◌, ◌*◌, ◌≤◌, ◌<◌, ◌≡◌, ◌⊎◌, true, cond, List, [], ◌∷◌, ◌++◌, length, replicate}
 use Rattle.std.proofs.Math.Option.{some}
 use Rattle.rules.specs.Word.{Word}
-use Rattle.rules.specs.Page.{Form, size, Chip, in_edition, State, slots}
+use Rattle.rules.specs.Page.{Form, size, Chip, in_edition, State}
 use Rattle.rules.specs.Store.{states, order}
 use Rattle.rules.specs.Call.{form_of, page_count, wrong_size, first_pages, page_in}
 use Rattle.rules.specs.Named.{chip_of}

@@ -1,4 +1,4 @@
-use borrow.Author.Rules.{rules}
+-- Written out, so that a wrong count fails on the fact.
 use Rattle.broken.proofs.of_opening.Goals as goal
 
 pub returns-then-place-eq-NONE : goal.returns-then-place-eq-NONE

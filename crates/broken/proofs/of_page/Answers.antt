@@ -1,6 +1,6 @@
+-- The slots that are lent are those of the page.
 use mathlib.Core.Path.{◌∙◌, subst}
 use mathlib.Core.List.{List, map}
-use borrow.Author.Rules.{rules}
 use Rattle.rules.specs.Word.{Word, slot}
 use Rattle.rules.specs.Store.{outside}
 use Rattle.rules.specs.Listing.{conditions}

@@ -1,4 +1,3 @@
-use borrow.Author.Rules.{rules}
 use Rattle.rules.specs.Store.{count}
 use Rattle.rules.specs.Listing.{is_half, is_spoiled, condition_at}
 use Rattle.broken.proofs.Counting.{counts_opening}

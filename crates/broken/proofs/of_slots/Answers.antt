@@ -1,17 +1,17 @@
-use Prim.Native.Nat.{ℕ, ◌+◌, ◌-◌, ◌*◌, ◌≤◌}
+use Prim.Native.Nat.{ℕ, ◌+◌, ◌*◌, ◌≤◌}
 use mathlib.Core.Path.{sym, ap, subst}
 use mathlib.Core.List.{List, map}
 use native.Mathlib.Omega.{arith}
 use lib.ListN.{length, take}
 use Rattle.rules.specs.Word.{Word, words, low16, slot}
-use Rattle.rules.specs.Store.{Place, outside, behind, place_behind, count}
+use Rattle.rules.specs.Store.{Place, outside, place_behind, count}
 use Rattle.rules.specs.Listing.{conditions}
 use Rattle.words.specs.Read.{as_word, as_slot}
 use Rattle.words.proofs.Parts.{all_words, next_word}
-use Rattle.groups.specs.Stands.{Stands, Proper}
+use Rattle.groups.specs.Stands.{Proper}
 use Rattle.groups.proofs.Standing.{place_at, next_place, taken_many, slot_proper}
 use Rattle.broken.specs.Counts.{Counts}
-use Rattle.broken.proofs.Counting.{counts_more, counts_few, first_slots, next_slot}
+use Rattle.broken.proofs.Counting.{counts_more, counts_few, next_slot}
 use Rattle.broken.proofs.of_slots.Goals as goal
 use Rattle.broken.proofs.of_slots.Goals.{After-in_slot-s}
 

@@ -1,17 +1,11 @@
-use Prim.Native.Nat.{ℕ, ◌+◌, ◌-◌, ◌*◌, ◌≤◌}
-use mathlib.Core.Path.{sym, ap, subst}
-use mathlib.Core.List.{List, map}
-use native.Mathlib.Omega.{arith}
+-- The invariant: the slots passed are counted, and the next one stands at the place.
+use Prim.Native.Nat.{◌+◌, ◌-◌, ◌*◌, ◌≤◌}
 use lib.ListN.{length, take}
-use Rattle.rules.specs.Word.{Word, words, low16, slot}
-use Rattle.rules.specs.Store.{Place, outside, behind, place_behind, count}
-use Rattle.rules.specs.Listing.{conditions}
-use Rattle.words.specs.Read.{as_word, as_slot}
-use Rattle.words.proofs.Parts.{all_words, next_word}
-use Rattle.groups.specs.Stands.{Stands, Proper}
-use Rattle.groups.proofs.Standing.{place_at, next_place, taken_many, slot_proper}
+use Rattle.rules.specs.Word.{words}
+use Rattle.groups.specs.Stands.{Stands}
+use Rattle.groups.proofs.Standing.{place_at}
 use Rattle.broken.specs.Counts.{Counts}
-use Rattle.broken.proofs.Counting.{counts_more, counts_few, first_slots, next_slot}
+use Rattle.broken.proofs.Counting.{first_slots}
 use Rattle.broken.proofs.of_slots.Given as goal
 
 abbrev pub invariant-loop-k : goal.invariant-loop-k

@@ -1,12 +1,8 @@
-use Prim.Native.Nat.{ℕ, ◌-◌, ◌*◌, ◌≤◌}
+use Prim.Native.Nat.{ℕ}
 use mathlib.Core.Path.{◌≡◌, refl, sym, ap, ◌∙◌}
 use mathlib.Core.List.{List}
 use native.Mathlib.Omega.{arith}
-use lib.ListN.{length, drop}
-use borrow.Author.Rules.{rules}
-use borrow.Author.Tests.{not-true, not-false}
-use Rattle.rules.specs.Owner.{Owner, named_owner, a_foreign}
-use Rattle.rules.specs.Call.{triples}
+use Rattle.rules.specs.Owner.{Owner, named_owner}
 use Rattle.changes.specs.Entries.{byte_address}
 use Rattle.changes.proofs.Entries.{foreign_here, foreign_later, foreign_nowhere}
 use Rattle.changes.proofs.a_foreign.Goals as goal

@@ -1,14 +1,8 @@
-use Prim.Native.Nat.{ℕ, ◌-◌, ◌*◌, ◌≤◌}
-use mathlib.Core.Path.{◌≡◌, refl, sym, ap, ◌∙◌}
-use mathlib.Core.List.{List}
-use native.Mathlib.Omega.{arith}
+use Prim.Native.Nat.{◌-◌, ◌*◌, ◌≤◌}
+use mathlib.Core.Path.{◌≡◌}
 use lib.ListN.{length, drop}
-use borrow.Author.Rules.{rules}
-use borrow.Author.Tests.{not-true, not-false}
-use Rattle.rules.specs.Owner.{Owner, named_owner, a_foreign}
+use Rattle.rules.specs.Owner.{named_owner, a_foreign}
 use Rattle.rules.specs.Call.{triples}
-use Rattle.changes.specs.Entries.{byte_address}
-use Rattle.changes.proofs.Entries.{foreign_here, foreign_later, foreign_nowhere}
 use Rattle.changes.proofs.a_foreign.Given as goal
 
 abbrev pub invariant-loop-i : goal.invariant-loop-i

@@ -1,8 +1,5 @@
-use Prim.Native.Nat.{◌-◌, ◌*◌, ◌≤◌}
-use mathlib.Core.Path.{◌≡◌, refl, sym, ◌∙◌}
+use mathlib.Core.Path.{refl, sym, ◌∙◌}
 use native.Mathlib.Omega.{arith}
-use lib.ListN.{length, drop}
-use Rattle.rules.specs.Call.{a_wrong_address, triples}
 use Rattle.changes.proofs.Entries.{wrong_here, wrong_later, wrong_nowhere}
 use Rattle.changes.proofs.a_wrong_address.Goals as goal
 

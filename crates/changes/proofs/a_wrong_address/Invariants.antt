@@ -1,9 +1,7 @@
 use Prim.Native.Nat.{◌-◌, ◌*◌, ◌≤◌}
-use mathlib.Core.Path.{◌≡◌, refl, sym, ◌∙◌}
-use native.Mathlib.Omega.{arith}
+use mathlib.Core.Path.{◌≡◌}
 use lib.ListN.{length, drop}
 use Rattle.rules.specs.Call.{a_wrong_address, triples}
-use Rattle.changes.proofs.Entries.{wrong_here, wrong_later, wrong_nowhere}
 use Rattle.changes.proofs.a_wrong_address.Given as goal
 
 abbrev pub invariant-loop-i : goal.invariant-loop-i

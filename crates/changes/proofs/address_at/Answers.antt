@@ -1,4 +1,3 @@
-use borrow.Author.Rules.{rules}
 use Rattle.rules.specs.Word.{low16}
 use Rattle.changes.proofs.address_at.Goals as goal
 

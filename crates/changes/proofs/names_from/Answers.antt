@@ -1,9 +1,6 @@
-use Prim.Native.Nat.{◌-◌, ◌*◌, ◌≤◌}
-use mathlib.Core.Path.{◌≡◌, refl, sym, ◌∙◌}
+use mathlib.Core.Path.{refl, sym, ◌∙◌}
 use native.Mathlib.Omega.{arith}
-use lib.ListN.{length}
-use Rattle.rules.specs.Call.{among}
-use Rattle.changes.proofs.Entries.{addresses_from, named_here, named_later, named_nowhere}
+use Rattle.changes.proofs.Entries.{named_here, named_later, named_nowhere}
 use Rattle.changes.proofs.names_from.Goals as goal
 
 pub loop-i-init : goal.loop-i-init

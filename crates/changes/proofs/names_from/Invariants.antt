@@ -1,9 +1,8 @@
 use Prim.Native.Nat.{◌-◌, ◌*◌, ◌≤◌}
-use mathlib.Core.Path.{◌≡◌, refl, sym, ◌∙◌}
-use native.Mathlib.Omega.{arith}
+use mathlib.Core.Path.{◌≡◌}
 use lib.ListN.{length}
 use Rattle.rules.specs.Call.{among}
-use Rattle.changes.proofs.Entries.{addresses_from, named_here, named_later, named_nowhere}
+use Rattle.changes.proofs.Entries.{addresses_from}
 use Rattle.changes.proofs.names_from.Given as goal
 
 abbrev pub invariant-loop-i : goal.invariant-loop-i

@@ -1,8 +1,7 @@
-use Prim.Native.Nat.{◌+◌, ◌-◌, ◌*◌, ◌≤◌}
-use mathlib.Core.Path.{◌≡◌, refl, sym, ap, ◌∙◌}
+use Prim.Native.Nat.{◌+◌}
+use mathlib.Core.Path.{refl, sym, ap, ◌∙◌}
 use native.Mathlib.Omega.{arith}
-use lib.ListN.{length}
-use Rattle.rules.specs.Call.{among, repeats}
+use Rattle.rules.specs.Call.{among}
 use Rattle.changes.proofs.Entries.{addresses_from, again_here, again_later, again_nowhere}
 use Rattle.changes.proofs.repeats.Goals as goal
 

@@ -1,9 +1,8 @@
-use Prim.Native.Nat.{◌+◌, ◌-◌, ◌*◌, ◌≤◌}
-use mathlib.Core.Path.{◌≡◌, refl, sym, ap, ◌∙◌}
-use native.Mathlib.Omega.{arith}
+use Prim.Native.Nat.{◌-◌, ◌*◌, ◌≤◌}
+use mathlib.Core.Path.{◌≡◌}
 use lib.ListN.{length}
-use Rattle.rules.specs.Call.{among, repeats}
-use Rattle.changes.proofs.Entries.{addresses_from, again_here, again_later, again_nowhere}
+use Rattle.rules.specs.Call.{repeats}
+use Rattle.changes.proofs.Entries.{addresses_from}
 use Rattle.changes.proofs.repeats.Given as goal
 
 abbrev pub invariant-loop-i : goal.invariant-loop-i

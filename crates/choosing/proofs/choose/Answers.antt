@@ -1,10 +1,10 @@
+-- Each test is the rules', in their order, of any image that the store was opened from.
 use Prim.Native.Nat.{ℕ, ◌+◌, ◌≤◌, ◌<◌}
 use mathlib.Core.Path.{◌≡◌, sym, ap, ◌∙◌}
 use mathlib.Core.Bool.{Bool, false, cond, ◌||◌}
 use mathlib.Core.List.{List}
 use native.Mathlib.Omega.{arith}
 use lib.ListN.{length}
-use borrow.Author.Rules.{rules}
 use Rattle.rules.specs.Page.{Form}
 use Rattle.rules.specs.Store.{Setting}
 use Rattle.rules.specs.Steps.{Change, settings_of, words_of, all_values}

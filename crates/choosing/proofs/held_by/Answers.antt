@@ -1,5 +1,4 @@
 use native.Mathlib.Omega.{arith}
-use borrow.Author.Rules.{rules}
 use Rattle.choosing.proofs.Rooms.{handsets, handsets_few, timers}
 use Rattle.choosing.proofs.held_by.Goals as goal
 

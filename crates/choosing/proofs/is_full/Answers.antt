@@ -1,5 +1,4 @@
 use native.Mathlib.Omega.{arith}
-use borrow.Author.Rules.{rules}
 use Rattle.rules.specs.Owner.{named_owner}
 use Rattle.choosing.proofs.Rooms.{none_new, too_many, by_owner}
 use Rattle.choosing.proofs.is_full.Goals as goal

@@ -1,4 +1,3 @@
-use borrow.Author.Rules.{rules}
 use Rattle.rules.specs.Call.{wrong_group}
 use Rattle.choosing.specs.Way.{change_of}
 use Rattle.choosing.proofs.is_wrong.Goals as goal

@@ -1,6 +1,5 @@
 use mathlib.Core.Path.{sym, ◌∙◌}
 use native.Mathlib.Omega.{arith}
-use borrow.Author.Rules.{rules}
 use Rattle.choosing.proofs.Telling.{no_groups, cut_short, no_settings, too_many, by_repeats}
 use Rattle.choosing.proofs.is_wrong_group.Goals as goal
 

@@ -1,10 +1,7 @@
-use Prim.Native.Nat.{◌-◌, ◌≤◌}
-use mathlib.Core.Path.{◌≡◌, refl, ap, ◌∙◌}
+use mathlib.Core.Path.{refl, ap, ◌∙◌}
 use native.Mathlib.Omega.{arith}
-use lib.ListN.{take}
-use borrow.Author.Rules.{rules}
 use Rattle.rules.specs.Store.{index}
-use Rattle.choosing.specs.Candidate.{offer, as_candidate, Plain, least}
+use Rattle.choosing.specs.Candidate.{offer, Plain}
 use Rattle.choosing.proofs.Candidates.{best_none, best_more, best_all}
 use Rattle.choosing.proofs.least_worn.Goals as goal
 

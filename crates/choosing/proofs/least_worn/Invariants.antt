@@ -1,11 +1,8 @@
+-- The invariant: the candidate is the best of the places passed.
 use Prim.Native.Nat.{◌-◌, ◌≤◌}
-use mathlib.Core.Path.{◌≡◌, refl, ap, ◌∙◌}
-use native.Mathlib.Omega.{arith}
+use mathlib.Core.Path.{◌≡◌}
 use lib.ListN.{take}
-use borrow.Author.Rules.{rules}
-use Rattle.rules.specs.Store.{index}
-use Rattle.choosing.specs.Candidate.{offer, as_candidate, Plain, least}
-use Rattle.choosing.proofs.Candidates.{best_none, best_more, best_all}
+use Rattle.choosing.specs.Candidate.{as_candidate, Plain, least}
 use Rattle.choosing.proofs.least_worn.Given as goal
 
 abbrev pub invariant-loop-i : goal.invariant-loop-i

@@ -1,5 +1,4 @@
 use native.Mathlib.Omega.{arith}
-use borrow.Author.Rules.{rules}
 use Rattle.choosing.proofs.Ways.{page_end, page_move, page_open}
 use Rattle.choosing.proofs.new_page.Goals as goal
 

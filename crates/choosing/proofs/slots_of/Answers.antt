@@ -1,4 +1,3 @@
-use borrow.Author.Rules.{rules}
 use Rattle.changes.proofs.Entries.{length_triples}
 use Rattle.choosing.proofs.slots_of.Goals as goal
 

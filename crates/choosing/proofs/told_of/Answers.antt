@@ -1,18 +1,13 @@
-use Prim.Native.Nat.{ℕ, ◌+◌, ◌-◌, ◌*◌, ◌≤◌}
-use mathlib.Core.Path.{◌≡◌, subst}
-use mathlib.Core.Bool.{false}
+use Prim.Native.Nat.{◌+◌, ◌*◌, ◌≤◌}
+use mathlib.Core.Path.{subst}
 use mathlib.Core.List.{List}
 use native.Mathlib.Omega.{arith}
-use lib.ListN.{length, take}
-use Rattle.rules.specs.Page.{Page}
-use Rattle.rules.specs.Store.{settings, Setting}
-use Rattle.rules.specs.Call.{a_wrong_address, triples}
+use lib.ListN.{length}
+use Rattle.rules.specs.Store.{Setting}
 use Rattle.changes.proofs.Entries.{length_triples, all_entries}
-use Rattle.settings.specs.Held.{Holds, as_option}
-use Rattle.choosing.specs.declared.Known.{Known}
+use Rattle.settings.specs.Held.{as_option}
 use Rattle.choosing.specs.Known.{Knows}
 use Rattle.choosing.proofs.Telling.{found_value, knows_none, knows_more, new_few}
-use borrow.Author.Rules.{rules}
 use Rattle.choosing.proofs.told_of.Goals as goal
 
 pub loop-k-init : goal.loop-k-init

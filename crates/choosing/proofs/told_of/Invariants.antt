@@ -1,18 +1,15 @@
-use Prim.Native.Nat.{ℕ, ◌+◌, ◌-◌, ◌*◌, ◌≤◌}
-use mathlib.Core.Path.{◌≡◌, subst}
+-- The invariant: it is known of the settings passed.
+use Prim.Native.Nat.{ℕ, ◌-◌, ◌*◌, ◌≤◌}
+use mathlib.Core.Path.{◌≡◌}
 use mathlib.Core.Bool.{false}
 use mathlib.Core.List.{List}
-use native.Mathlib.Omega.{arith}
 use lib.ListN.{length, take}
 use Rattle.rules.specs.Page.{Page}
 use Rattle.rules.specs.Store.{settings, Setting}
 use Rattle.rules.specs.Call.{a_wrong_address, triples}
-use Rattle.changes.proofs.Entries.{length_triples, all_entries}
-use Rattle.settings.specs.Held.{Holds, as_option}
+use Rattle.settings.specs.Held.{Holds}
 use Rattle.choosing.specs.declared.Known.{Known}
 use Rattle.choosing.specs.Known.{Knows}
-use Rattle.choosing.proofs.Telling.{found_value, knows_none, knows_more, new_few}
-use borrow.Author.Rules.{rules}
 use Rattle.choosing.proofs.told_of.Given as goal
 
 -- whatever store the table is that of, it is known of these settings

@@ -1,7 +1,6 @@
-use Prim.Native.Nat.{◌≤◌, ◌+◌, ◌-◌}
+use Prim.Native.Nat.{◌+◌}
 use mathlib.Core.Path.{◌≡◌, ◌∙◌}
 use mathlib.Core.List.{◌++◌, append-nil}
-use borrow.Author.Rules.{rules}
 use lib.ListN.{length, set, replicate, drop, length-set}
 use lib.Seq.{drop-length}
 use borrow.Author.Fill.{fill_more}

@@ -1,11 +1,7 @@
-use Prim.Native.Nat.{◌≤◌, ◌+◌, ◌-◌}
-use mathlib.Core.Path.{◌≡◌, ◌∙◌}
-use mathlib.Core.List.{◌++◌, append-nil}
-use borrow.Author.Rules.{rules}
-use lib.ListN.{length, set, replicate, drop, length-set}
-use lib.Seq.{drop-length}
-use borrow.Author.Fill.{fill_more}
-use native.Mathlib.Omega.{arith}
+use Prim.Native.Nat.{◌≤◌, ◌-◌}
+use mathlib.Core.Path.{◌≡◌}
+use mathlib.Core.List.{◌++◌}
+use lib.ListN.{length, replicate, drop}
 use Rattle.flash.proofs.erase.Given as goal
 
 abbrev pub invariant-loop-i : goal.invariant-loop-i

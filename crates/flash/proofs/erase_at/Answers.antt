@@ -1,4 +1,3 @@
-use borrow.Author.Rules.{rules}
 use Rattle.flash.proofs.Lent.{erased_sized}
 use Rattle.flash.proofs.erase_at.Goals as goal
 

@@ -2,7 +2,6 @@ use Prim.Native.Nat.{◌+◌, ◌≤◌}
 use lib.ListN.{length}
 use native.Mathlib.Omega.{arith}
 use Rattle.flash.proofs.Lent.{two_past, may_program_rest, programmed_rest}
-use borrow.Author.Rules.{rules}
 use Rattle.flash.proofs.program_at.Goals as goal
 use Rattle.flash.proofs.program_at.Goals.{Start}
 

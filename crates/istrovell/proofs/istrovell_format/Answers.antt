@@ -1,9 +1,9 @@
+-- The pages are of the edition that is told.
 use Prim.Native.Nat.{ℕ}
 use mathlib.Core.Path.{◌≡◌, sym, ap, ◌∙◌, subst}
 use mathlib.Core.Bool.{Bool}
 use mathlib.Core.List.{List}
 use mathlib.Core.Option.{some}
-use borrow.Author.Rules.{rules}
 use Rattle.rules.specs.Page.{Form, Chip, in_edition}
 use Rattle.rules.specs.Call.{SIZE, Formatted, refused_format, format}
 use Rattle.rules.specs.Named.{chip_of, told_form, format_at}

@@ -1,4 +1,4 @@
-use borrow.Author.Rules.{rules}
+-- The image is read by the form that it has at the page size.
 use Rattle.rules.specs.Call.{SIZE, refused_lookup, lookup}
 use Rattle.rules.proofs.Named.{lookup_wrong}
 use Rattle.survey.proofs.Sizes.{sized_lawful, sized_right, sized_wrong}

@@ -1,4 +1,4 @@
-use borrow.Author.Rules.{rules}
+-- The image is read by the form that it has at the page size.
 use Rattle.rules.specs.Owner.{named_owner}
 use Rattle.rules.specs.Call.{SIZE, refused_steps, write, group_of}
 use Rattle.rules.proofs.Named.{write_wrong}

@@ -1,3 +1,4 @@
+-- An accepted image is listed, a refused one's number is told.
 use Prim.Native.Nat.{ℕ, ◌≤◌}
 use mathlib.Core.List.{List, ◌++◌}
 use native.Mathlib.Omega.{arith}

@@ -1,3 +1,4 @@
+-- The end of the first line.
 use native.Mathlib.Omega.{arith}
 use Rattle.rules.specs.Listing.{decimal, text_spoiled}
 use Rattle.lines.specs.Appended.{broken_part}

@@ -1,3 +1,4 @@
+-- A text and a number.
 use Rattle.lines.proofs.Appending.{appends_then}
 use Rattle.lines.proofs.put_field.Goals as goal
 

@@ -1,3 +1,4 @@
+-- The line is its three parts.
 use Prim.Native.Nat.{◌<◌}
 use native.Mathlib.Omega.{arith}
 use Rattle.lines.specs.Appended.{told_line}

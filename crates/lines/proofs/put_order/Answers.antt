@@ -1,3 +1,4 @@
+-- The order of the first line.
 use native.Mathlib.Omega.{arith}
 use Rattle.rules.specs.Listing.{decimal, text_held}
 use Rattle.lines.specs.Appended.{order_part}

@@ -1,3 +1,4 @@
+-- The pages of the first line.
 use native.Mathlib.Omega.{arith}
 use Rattle.rules.specs.Listing.{decimal, text_used, text_cleared}
 use Rattle.lines.specs.Appended.{pages_part}

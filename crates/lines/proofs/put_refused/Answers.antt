@@ -1,3 +1,4 @@
+-- The line of a refusal.
 use native.Mathlib.Omega.{arith}
 use Rattle.lines.proofs.Appending.{appends_then}
 use Rattle.lines.proofs.Decimal.{decimal_length}

@@ -1,3 +1,4 @@
+-- One line of a setting.
 use Rattle.rules.specs.Listing.{decimal, space, setting_line}
 use native.Mathlib.Omega.{arith}
 use Rattle.lines.proofs.Appending.{appends_then, appends_field}

@@ -1,3 +1,4 @@
+-- The invariant: the lines of the settings passed stand in the buffer.
 use Prim.Native.Nat.{◌+◌, ◌-◌, ◌*◌, ◌≤◌}
 use mathlib.Core.Path.{◌≡◌}
 use mathlib.Core.List.{List}

@@ -1,3 +1,4 @@
+-- Bytes copied one by one.
 use Prim.Native.Nat.{◌+◌, ◌-◌, ◌≤◌}
 use lib.ListN.{length, take}
 use Rattle.lines.specs.Appended.{Appends}

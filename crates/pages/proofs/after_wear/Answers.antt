@@ -1,7 +1,6 @@
 use mathlib.Core.Path.{◌≡◌, sym, ◌∙◌}
 use native.Mathlib.Omega.{arith}
 use borrow.Author.Rules.{part_to_end}
-use borrow.Author.Rules.{rules}
 use Rattle.rules.specs.Word.{words}
 use Rattle.rules.specs.Page.{all_blank}
 use Rattle.rules.specs.Store.{order}

@@ -1,10 +1,6 @@
-use Prim.Native.Nat.{◌≤◌, ◌-◌}
 use mathlib.Core.Path.{◌≡◌, refl, sym, ap, ◌∙◌}
 use native.Mathlib.Omega.{arith}
-use lib.ListN.{length, drop}
-use borrow.Author.Tests.{not-true, not-false}
-use Rattle.rules.specs.Word.{words, blank}
-use Rattle.rules.specs.Page.{all_blank}
+use Rattle.rules.specs.Word.{blank}
 use Rattle.pages.proofs.Scan.{blank_on, blank_off, blank_end}
 use Rattle.pages.proofs.all_blank.Goals as goal
 

@@ -1,11 +1,9 @@
+-- The invariant: the words from the offset on decide.
 use Prim.Native.Nat.{◌≤◌, ◌-◌}
-use mathlib.Core.Path.{◌≡◌, refl, sym, ap, ◌∙◌}
-use native.Mathlib.Omega.{arith}
+use mathlib.Core.Path.{◌≡◌}
 use lib.ListN.{length, drop}
-use borrow.Author.Tests.{not-true, not-false}
-use Rattle.rules.specs.Word.{words, blank}
+use Rattle.rules.specs.Word.{words}
 use Rattle.rules.specs.Page.{all_blank}
-use Rattle.pages.proofs.Scan.{blank_on, blank_off, blank_end}
 use Rattle.pages.proofs.all_blank.Given as goal
 
 abbrev pub invariant-loop-at : goal.invariant-loop-at

@@ -1,10 +1,6 @@
-use Prim.Native.Nat.{◌≤◌, ◌/◌}
 use mathlib.Core.Path.{◌≡◌, sym, ap, ◌∙◌}
 use native.Mathlib.Omega.{arith}
-use lib.ListN.{length, take}
-use borrow.Author.Tests.{not-true, not-false}
-use Rattle.rules.specs.Word.{words, blank}
-use Rattle.rules.specs.Store.{free_slot}
+use Rattle.rules.specs.Word.{blank}
 use Rattle.pages.proofs.Scan.{free_whole, free_on, free_stop, free_none}
 use Rattle.pages.proofs.free_slot.Goals as goal
 

@@ -1,11 +1,9 @@
+-- The invariant: the first n words decide.
 use Prim.Native.Nat.{◌≤◌, ◌/◌}
-use mathlib.Core.Path.{◌≡◌, sym, ap, ◌∙◌}
-use native.Mathlib.Omega.{arith}
+use mathlib.Core.Path.{◌≡◌}
 use lib.ListN.{length, take}
-use borrow.Author.Tests.{not-true, not-false}
-use Rattle.rules.specs.Word.{words, blank}
+use Rattle.rules.specs.Word.{words}
 use Rattle.rules.specs.Store.{free_slot}
-use Rattle.pages.proofs.Scan.{free_whole, free_on, free_stop, free_none}
 use Rattle.pages.proofs.free_slot.Given as goal
 
 abbrev pub invariant-loop-n : goal.invariant-loop-n

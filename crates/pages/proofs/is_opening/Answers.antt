@@ -1,6 +1,5 @@
 use mathlib.Core.Bool.{and-true, and-false}
 use borrow.Author.Tests.{eq-eqb, ne_eqb}
-use borrow.Author.Rules.{rules}
 use Rattle.rules.specs.Page.{is_opening}
 use Rattle.pages.proofs.is_opening.Goals as goal
 

@@ -1,5 +1,4 @@
 use native.Mathlib.Omega.{arith}
-use borrow.Author.Rules.{rules}
 use Rattle.pages.proofs.one_more.Goals as goal
 
 pub returns-then-wear-eq65535 : goal.returns-then-wear-eq65535

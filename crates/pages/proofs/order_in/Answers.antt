@@ -1,7 +1,6 @@
 use Prim.Native.Nat.{ℕ, ◌/◌}
 use mathlib.Core.Path.{ap}
 use native.Mathlib.Omega.{arith}
-use borrow.Author.Rules.{rules}
 use Rattle.rules.specs.Word.{low24}
 use Rattle.rules.specs.Page.{order_in}
 use Rattle.pages.proofs.order_in.Goals as goal

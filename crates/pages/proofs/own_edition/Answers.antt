@@ -1,6 +1,5 @@
 use mathlib.Core.Path.{sym, ◌∙◌}
 use native.Mathlib.Omega.{arith}
-use borrow.Author.Rules.{rules}
 use Rattle.rules.specs.Word.{third}
 use Rattle.words.specs.Read.{as_word}
 use Rattle.pages.specs.Read.{as_chip}

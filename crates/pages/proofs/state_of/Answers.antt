@@ -1,6 +1,5 @@
 use mathlib.Core.Path.{sym, ap, ◌∙◌}
 use native.Mathlib.Omega.{arith}
-use borrow.Author.Rules.{rules}
 use Rattle.rules.specs.Page.{state_after_wear}
 use Rattle.rules.specs.Store.{order}
 use Rattle.pages.proofs.Header.{no_wear, with_wear}

@@ -1,5 +1,4 @@
 use mathlib.Core.Path.{sym, ◌∙◌}
-use borrow.Author.Rules.{rules}
 use Rattle.rules.specs.Store.{or_value}
 use Rattle.pages.proofs.Header.{wear_absent, wear_present}
 use Rattle.pages.proofs.wear_or.Goals as goal

@@ -1,5 +1,5 @@
+-- It is the read, but of an address that is not held.
 use mathlib.Core.Path.{sym, ap, ◌∙◌}
-use borrow.Author.Rules.{rules}
 use Rattle.rules.specs.Owner.{named_owner}
 use Rattle.rules.specs.Call.{Reading}
 use Rattle.rules.proofs.Answers.{blank_read_nothing, blank_read_else}

@@ -1,6 +1,5 @@
 use mathlib.Core.Path.{◌≡◌, sym, ap, ◌∙◌}
 use mathlib.Core.Option.{none, some}
-use borrow.Author.Rules.{rules}
 use Rattle.rules.specs.Store.{last_of, or_value}
 use Rattle.rules.specs.Call.{is_held, blank_value}
 use Rattle.settings.specs.Held.{as_option}

@@ -1,7 +1,7 @@
+-- Its digits are the values of the four addresses.
 use Prim.Native.Nat.{ℕ}
 use mathlib.Core.Path.{sym, ap, ◌∙◌}
 use mathlib.Core.List.{List}
-use borrow.Author.Rules.{rules}
 use Rattle.rules.specs.Store.{last_of, settings, value}
 use Rattle.rules.specs.Call.{pages, refused_lookup, pairing}
 use Rattle.rules.specs.Page.{Form}

@@ -4,7 +4,6 @@ use mathlib.Core.Bool.{Bool, true, false, ◌&&◌}
 use mathlib.Core.List.{[], ◌∷◌}
 use mathlib.Core.Option.{Option}
 use native.Mathlib.Omega.{arith}
-use borrow.Author.Rules.{rules}
 use Rattle.rules.specs.Store.{last_of}
 use Rattle.rules.specs.Call.{is_held, code, all_held, pairing}
 use Rattle.reading.proofs.pairing_of.Goals as goal

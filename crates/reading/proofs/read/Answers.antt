@@ -1,10 +1,9 @@
+-- Each test is the rules', in their order.
 use Prim.Native.Nat.{ℕ, ◌<◌}
 use mathlib.Core.Path.{◌≡◌, sym, ap, ◌∙◌}
 use mathlib.Core.Bool.{true}
 use mathlib.Core.List.{List}
 use native.Mathlib.Omega.{arith}
-use borrow.Author.Rules.{rules}
-use borrow.Author.Tests.{not-true, not-false}
 use Rattle.rules.specs.Store.{value}
 use Rattle.rules.specs.Owner.{Owner, named_owner}
 use Rattle.rules.specs.Call.{pages, store_number, refused_reading}

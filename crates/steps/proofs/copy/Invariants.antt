@@ -1,3 +1,4 @@
+-- The invariant: those of the first i rows that are kept are copied.
 use Prim.Native.Nat.{◌-◌, ◌≤◌}
 use mathlib.Core.Path.{◌≡◌}
 use lib.ListN.{length}

@@ -1,3 +1,4 @@
+-- The invariant: the greatest of the first i pages is known.
 use Prim.Native.Nat.{◌-◌, ◌≤◌}
 use mathlib.Core.Path.{◌≡◌}
 use Rattle.pages.specs.Read.{as_form}

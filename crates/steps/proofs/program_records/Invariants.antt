@@ -1,3 +1,4 @@
+-- The invariant: the first k records are programmed.
 use Prim.Native.Nat.{◌-◌, ◌*◌, ◌≤◌}
 use lib.ListN.{length}
 use Rattle.rules.specs.Page.{size}

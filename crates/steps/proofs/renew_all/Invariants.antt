@@ -1,3 +1,4 @@
+-- The invariant: the first i pages are renewed.
 use Prim.Native.Nat.{◌≤◌, ◌-◌}
 use mathlib.Core.Path.{◌≡◌}
 use lib.ListN.{length}

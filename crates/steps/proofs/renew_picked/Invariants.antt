@@ -1,3 +1,4 @@
+-- The invariant: the picked pages among the first i are renewed, and the greatest wear is that of the image as it would be then.
 use Prim.Native.Nat.{◌-◌, ◌≤◌}
 use Rattle.pages.specs.Read.{as_form}
 use Rattle.steps.proofs.Picked.{Passed}

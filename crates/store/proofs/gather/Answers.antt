@@ -1,6 +1,6 @@
-use Prim.Native.Nat.{ℕ, ◌≤◌, ◌-◌}
+use Prim.Native.Nat.{ℕ}
 use mathlib.Core.Path.{◌≡◌, ◌∙◌, subst}
-use mathlib.Core.Logic.{inl, inr, ⊎_elim}
+use mathlib.Core.Logic.{inl, inr}
 use mathlib.Core.List.{[]}
 use native.Mathlib.Omega.{arith}
 use lib.ListN.{get_or, take}
@@ -27,13 +27,6 @@ overflow_add-k c = omega arith
 
 pub bounds-line-k : goal.bounds-line-k
 bounds-line-k c = omega arith
-
-{- NOGOAL overflow-cast-put-page
-cast_put_page : tie.Need-overflow-cast-put-page invariant-loop decreases-loop
-cast_put_page c =
-    let start = c.before.before.before.before.before in
-    omega (arith, start.requires.1.0.places c.before.before.before.loop.k (omega arith))
--}
 
 pub put_page-passed-requires : goal.put_page-passed-requires
 put_page-passed-requires c =

@@ -1,15 +1,11 @@
-use Prim.Native.Nat.{ℕ, ◌≤◌, ◌-◌}
-use mathlib.Core.Path.{◌≡◌, ◌∙◌, subst}
-use mathlib.Core.Logic.{inl, inr, ⊎_elim}
+-- The invariant: the table holds the records of the pages passed.
+use Prim.Native.Nat.{◌≤◌, ◌-◌}
 use mathlib.Core.List.{[]}
-use native.Mathlib.Omega.{arith}
-use lib.ListN.{get_or, take}
-use Rattle.rules.specs.Store.{each, put_all, in_group}
+use lib.ListN.{take}
+use Rattle.rules.specs.Store.{put_all}
 use Rattle.pages.specs.Read.{as_form}
 use Rattle.settings.specs.Held.{Holds}
-use Rattle.survey.specs.States.{slots_in}
-use Rattle.store.specs.Gather.{gathered, standing, Ends}
-use Rattle.store.proofs.Gathering.{Passed, slots_few, all_passed, all_ends, gather_more}
+use Rattle.store.specs.Gather.{gathered, Ends}
 use Rattle.store.proofs.gather.Given as goal
 
 abbrev pub invariant-loop-k : goal.invariant-loop-k

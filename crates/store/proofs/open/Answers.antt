@@ -1,7 +1,7 @@
+-- The look, the settings of the used pages, and the number of both.
 use Prim.Native.Nat.{ℕ}
 use mathlib.Core.Path.{◌≡◌, sym, ◌∙◌, subst}
 use mathlib.Core.List.{List}
-use borrow.Author.Rules.{rules}
 use Rattle.rules.specs.Page.{Form}
 use Rattle.rules.specs.Store.{settings}
 use Rattle.rules.specs.Call.{pages, store_number}

@@ -1,14 +1,10 @@
+-- The slots that are lent are the first ones of the page.
 use mathlib.Core.Path.{ap, ◌∙◌, subst}
 use mathlib.Core.List.{List}
-use borrow.Author.Rules.{rules}
 use Rattle.rules.specs.Word.{Word}
 use Rattle.rules.specs.Store.{put_all, records, in_group}
 use Rattle.settings.specs.Held.{Holds}
 use Rattle.store.specs.Gather.{standing}
-use Rattle.store.proofs.put_page.Reads as reads
-use Rattle.store.proofs.put_page.Lts as lts
-use Rattle.settings.proofs.put_slots.Reads as put_slots_reads
-use Rattle.survey.proofs.slots_of.Reads as slots_of_reads
 use Rattle.store.proofs.put_page.Goals as goal
 
 pub returns : goal.returns

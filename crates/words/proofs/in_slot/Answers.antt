@@ -1,5 +1,4 @@
 use mathlib.Core.Path.{◌≡◌, sym, ◌∙◌}
-use borrow.Author.Rules.{rules}
 use Rattle.rules.specs.Word.{Word, low16}
 use Rattle.rules.proofs.Conditions.{blank_told, sound_told, half_told, other_told}
 use Rattle.words.specs.Read.{as_word}

@@ -1,4 +1,3 @@
-use borrow.Author.Rules.{rules}
 use Rattle.rules.specs.Word.{sound}
 use Rattle.words.proofs.is_sound.Goals as goal
 

@@ -1,5 +1,4 @@
 use native.Mathlib.Omega.{arith}
-use borrow.Author.Rules.{rules}
 use Rattle.rules.proofs.Conditions.{mark_zero, mark_opens, mark_closes, mark_between, mark_beyond}
 use Rattle.words.proofs.mark.Goals as goal
 

@@ -1,5 +1,4 @@
 use native.Mathlib.Omega.{arith}
-use borrow.Author.Rules.{rules}
 use Rattle.words.proofs.Table.{table, by_table, two_looks}
 use Rattle.words.proofs.zeros.Goals as goal
 

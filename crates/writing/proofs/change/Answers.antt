@@ -1,3 +1,4 @@
+-- Each arm does the steps of the way that was chosen.
 use Prim.Native.Nat.{ℕ}
 use mathlib.Core.Bool.{Bool}
 use mathlib.Core.List.{List}

@@ -1,3 +1,4 @@
+-- What is held, and what is new.
 use native.Mathlib.Omega.{arith}
 use mathlib.Core.Path.{◌≡◌}
 use Prim.Native.Nat.{◌+◌}

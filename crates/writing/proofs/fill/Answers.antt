@@ -1,3 +1,4 @@
+-- The opening word, the copies, the done word.
 use mathlib.Core.List.{List, ◌++◌, map}
 use native.Mathlib.Omega.{arith}
 use Rattle.rules.specs.Flash.{Step}

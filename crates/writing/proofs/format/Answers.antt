@@ -1,3 +1,4 @@
+-- Every page is renewed, and then page 0 is opened.
 use mathlib.Core.Path.{◌≡◌}
 use native.Mathlib.Omega.{arith}
 use Rattle.pages.specs.Read.{as_form}

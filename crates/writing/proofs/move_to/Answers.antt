@@ -1,3 +1,4 @@
+-- The page is filled, and then the others are renewed.
 use mathlib.Core.List.{List}
 use native.Mathlib.Omega.{arith}
 use Rattle.rules.specs.Store.{Setting}

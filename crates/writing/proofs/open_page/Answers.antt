@@ -1,3 +1,4 @@
+-- The opening word, and then the change.
 use Prim.Native.Nat.{◌+◌}
 use mathlib.Core.Path.{◌≡◌}
 use mathlib.Core.List.{List}

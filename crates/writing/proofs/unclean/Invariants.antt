@@ -1,3 +1,4 @@
+-- The invariant: the places passed are picked by the test, the others are not.
 use Prim.Native.Nat.{◌-◌, ◌≤◌}
 use mathlib.Core.Path.{◌≡◌}
 use Rattle.writing.specs.Picks.{picked, neither_at}

@@ -1,5 +1,4 @@
 use mathlib.Core.Path.{ap}
-use borrow.Author.Rules.{rules}
 use Rattle.settings.specs.Held.{as_option}
 use Rattle.choosing.proofs.Telling.{same_value, other_value, no_value}
 use Rattle.choosing.proofs.Known.with.Goals as goal

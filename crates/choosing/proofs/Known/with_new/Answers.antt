@@ -1,5 +1,4 @@
 use mathlib.Core.Path.{refl}
-use borrow.Author.Rules.{rules}
 use Rattle.choosing.proofs.Known.with_new.Goals as goal
 
 pub returns : goal.returns

@@ -1,4 +1,3 @@
-use borrow.Author.Rules.{rules}
 use Rattle.groups.specs.Stands.{Proper}
 use Rattle.groups.proofs.Standing.{record_behind, opens_behind, closes_behind, neither_behind, neither_told}
 use Rattle.groups.proofs.Place.behind.Goals as goal

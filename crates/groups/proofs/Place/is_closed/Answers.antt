@@ -1,4 +1,3 @@
-use borrow.Author.Rules.{rules}
 use Rattle.groups.proofs.Standing.{outside_not_closed, other_not_closed, closed_if}
 use Rattle.groups.proofs.Place.is_closed.Goals as goal
 

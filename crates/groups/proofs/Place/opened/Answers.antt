@@ -1,4 +1,3 @@
-use borrow.Author.Rules.{rules}
 use Rattle.groups.proofs.Place.opened.Goals as goal
 
 pub returns-then-self-eq-NONE : goal.returns-then-self-eq-NONE

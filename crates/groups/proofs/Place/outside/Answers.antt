@@ -1,5 +1,4 @@
 use native.Mathlib.Omega.{arith}
-use borrow.Author.Rules.{rules}
 use Rattle.groups.specs.Stands.{Addressed, Ran, Stands}
 use Rattle.groups.proofs.Place.outside.Goals as goal
 
