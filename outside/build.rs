@@ -15,8 +15,8 @@ fn main() {
     println!("cargo:rustc-link-lib=static=istrovell");
 }
 
-/// ISTROVELL_LIB, or ../target/staticlib; a relative path starts at this package.
+/// ISTROVELL_LIB, or ../crates/istrovell/out; a relative path starts at this package.
 fn library_directory() -> PathBuf {
     let package = PathBuf::from(env::var_os("CARGO_MANIFEST_DIR").expect("cargo sets CARGO_MANIFEST_DIR"));
-    package.join(env::var_os("ISTROVELL_LIB").unwrap_or_else(|| "../target/staticlib".into()))
+    package.join(env::var_os("ISTROVELL_LIB").unwrap_or_else(|| "../crates/istrovell/out".into()))
 }

@@ -116,9 +116,9 @@ fn done(steps: u16) -> Stepped {
     Stepped { number: OK, finished: true, steps }
 }
 
-/// The 0 bits of each half of a byte, as docs/BENCH.md prints them.
+/// The 0 bits of each half of a byte, as README.md prints them for the bench.
 fn printed_counts() -> Vec<u8> {
-    let rows = include_str!("../../docs/BENCH.md").lines().filter_map(|line| line.strip_prefix("| 0 bits |"));
+    let rows = include_str!("../../README.md").lines().filter_map(|line| line.strip_prefix("| 0 bits |"));
     rows.flat_map(|row| row.split('|').filter_map(|cell| cell.trim().parse().ok())).collect()
 }
 
