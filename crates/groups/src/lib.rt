@@ -78,7 +78,8 @@ impl Place {
         if self.number == NONE {
             return false;
         }
-        if self.number != n as usize {
+        let is_another = self.number != n as usize;
+        if is_another {
             return false;
         }
         k - self.from == n as usize
