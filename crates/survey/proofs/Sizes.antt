@@ -68,6 +68,17 @@ pub wrong_in_all : (chip : Chip) (e : ℕ) (f : Form) (i : List ℕ) → f ≡ i
 unfolding wrong_size page_count
 wrong_in_all chip e f i is w edition = rw is at w
 
+pub right_in_all : (chip : Chip) (e : ℕ) (f : Form) (i : List ℕ) → f ≡ in_edition chip e → wrong_size f i ≡ false
+    → (edition : ℕ) → wrong_size (in_edition chip edition) i ≡ false
+unfolding wrong_size page_count
+right_in_all chip e f i is w edition = rw is at w
+
+-- the form by which an image is read is that of a right size, if any on the chip is
+pub form_right : (chip : Chip) (e : ℕ) (f g : Form) (i : List ℕ) → f ≡ in_edition chip e → wrong_size f i ≡ false → g ≡ form_of chip i
+    → wrong_size g i ≡ false
+unfolding form_of
+form_right chip e f g i is w by = rw by (right_in_all chip e f i is w _)
+
 -- what is read on the chip of a page size is read at that size
 pub on_its_chip : (n : ℕ) (i : List ℕ) (chip : Chip) → chip_of n ≡ some chip → (r : Sized) → SizedOn chip i r → SizedAt n i r
 on_its_chip n i chip e (Right form) h = (chip, e, h)

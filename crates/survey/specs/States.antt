@@ -1,5 +1,5 @@
 -- The pages of an image as the code meets them: their number, their states in an array of 32 places, the slots of one of them.
-use Rattle.std.specs.Prelude.{ℕ, ◌-◌, ◌*◌, ◌≤◌, ◌<◌, ◌≡◌, ◌⊎◌, true, cond, List, [], ◌∷◌, ◌++◌, length, replicate}
+use Rattle.std.specs.Prelude.{ℕ, ◌-◌, ◌*◌, ◌≤◌, ◌<◌, ◌≡◌, ◌⊎◌, true, false, cond, List, [], ◌∷◌, ◌++◌, length, replicate}
 use Rattle.std.proofs.Math.Option.{some}
 use Rattle.rules.specs.Word.{Word}
 use Rattle.rules.specs.Page.{Form, size, Chip, in_edition, State}
@@ -21,6 +21,11 @@ pub record Counted (fm : Form) (i : List ℕ) (r : ℕ) : Type 0 where
 abbrev pub SizedOn : Chip → List ℕ → Sized → Type 0
 SizedOn c i (Right form) = (as_form form ≡ form_of c i) × Lawful form
 SizedOn c i Wrong = (edition : ℕ) → wrong_size (in_edition c edition) i ≡ true
+
+-- An image of a wrong size is read by no form.
+abbrev pub OfRightSize : List ℕ → Sized → Type 0
+OfRightSize i (Right form) = wrong_size (as_form form) i ≡ false
+OfRightSize i Wrong = Unit {0}
 
 abbrev pub SizedAt : (page_size : ℕ) → List ℕ → Sized → Type 0
 SizedAt n i (Right form) = (c : Chip) × (chip_of n ≡ some c) × SizedOn c i (Right form)
