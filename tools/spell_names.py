@@ -1,7 +1,7 @@
 #!/usr/bin/env python3
 """tools/spell_names.py: spells this repository's own definitions and lemmas as today's Rattle spells words, `wrong_size` for
 `wrong-size`. It was run once, after port.py, and is kept so that the port can be followed: on a folder that port.py has turned it
-does the same again. It names what falls together and then writes nothing."""
+does the same again. It names what falls together; with --dry behind the folder it writes nothing."""
 
 import os
 import re
