@@ -45,7 +45,8 @@ impl Candidate {
         ensures plain { Plain self → Plain result }
     {
         let best = self.spare;
-        if spare == 0 {
+        let is_none = spare == 0;
+        if is_none {
             return self;
         }
         if best == 0 {
@@ -77,11 +78,13 @@ fn new_page(spares: &[u32; PAGES_MAX], cleared: usize, order: u32) -> Way
     requires { order < 4194304 }
     ensures { result ≡ new_page_of spares.now cleared order }
 {
-    if order == ORDER_MAX {
+    let is_last = order == ORDER_MAX;
+    if is_last {
         return Way::Refuse(ORDER_END);
     }
     let taken = least_worn(spares);
-    if cleared < 2 {
+    let is_only_one = cleared < 2;
+    if is_only_one {
         return Way::Move(taken.index, order + 1);
     }
     Way::Open(taken.index, order + 1)
@@ -152,7 +155,8 @@ pub fn told_of<'a>(
 fn is_wrong_group(edition: u8, entries: &[u8]) -> bool
     ensures { result ≡ wrong_group edition (group_of entries.now) }
 {
-    if edition < 2 {
+    let has_no_groups = edition < 2;
+    if has_no_groups {
         return true;
     }
     if entries.len() % 3 != 0 {
@@ -236,10 +240,12 @@ fn is_full<'a>(addresses: &'a [u16; HELD_MAX], held: usize, timer: bool, new: us
     ensures { (ps : List Page) (rs : List Setting) → Has addresses.now held ps → new ≡ new_in rs ps
         → result ≡ (no_room rs ps || crowded (named_owner timer) rs ps) }
 {
-    if new == 0 {
+    let is_nothing_new = new == 0;
+    if is_nothing_new {
         return false;
     }
-    if HELD_MAX < held + new {
+    let is_over = HELD_MAX < held + new;
+    if is_over {
         return true;
     }
     let most = owners::most();

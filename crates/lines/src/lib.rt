@@ -155,7 +155,8 @@ pub fn list(image: &[u8], form: Form, out: &mut [u8]) -> usize
     let mut values = [NO_VALUE; HELD_MAX];
     let store = store::open(image, form, &mut addresses, &mut values);
     let number = store.number;
-    if number != OK {
+    let is_refused = number != OK;
+    if is_refused {
         return put_refused(out, number);
     }
     let look = store.look;

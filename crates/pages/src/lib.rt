@@ -66,7 +66,8 @@ pub fn chip_of(page_size: u16) -> Named
     if page_size == 1024 {
         return Named::Chip(SMALLER);
     }
-    if page_size == 2048 {
+    let is_larger = page_size == 2048;
+    if is_larger {
         return Named::Chip(LARGER);
     }
     Named::Nothing

@@ -85,7 +85,8 @@ pub fn blank_read(image: &[u8], form: Form, timer: bool, address: u16) -> Readin
 {
     let reading = read(image, form, timer, address);
     let number = reading.number;
-    if number != NOT_HELD {
+    let is_another = number != NOT_HELD;
+    if is_another {
         return reading;
     }
     Reading {

@@ -38,7 +38,8 @@ pub fn program_word(
     }
     let at = form.start(page) + place * 4;
     flash::program_at(image, at, w.a, w.b);
-    if left == 1 {
+    let is_last = left == 1;
+    if is_last {
         return 0;
     }
     flash::program_at(image, at + 2, w.c, w.d);

@@ -82,7 +82,8 @@ fn number_of(number: u8, held: usize) -> u8
     if number != OK {
         return number;
     }
-    if HELD_MAX < held {
+    let is_over = HELD_MAX < held;
+    if is_over {
         return DAMAGED;
     }
     OK

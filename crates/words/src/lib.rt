@@ -165,7 +165,8 @@ fn mark(value: u8) -> Slot
     if value == 0 {
         return Slot::Closes(0);
     }
-    if value <= 8 {
+    let is_opening = value <= 8;
+    if is_opening {
         return Slot::Opens(value);
     }
     if value < 129 {
@@ -182,7 +183,8 @@ fn without_address(w: Word, edition: u8) -> Slot
     requires { (low16 (as_word w) ≡ 65535) × (blank (as_word w) ≡ false) }
     ensures { as_slot (as_word w) result ≡ slot edition (as_word w) }
 {
-    if edition < 2 {
+    let has_no_groups = edition < 2;
+    if has_no_groups {
         return Slot::Spoiled;
     }
     if is_sound(w) {
@@ -195,7 +197,8 @@ fn without_address(w: Word, edition: u8) -> Slot
 pub fn in_slot(w: Word, edition: u8) -> Slot
     ensures { as_slot (as_word w) result ≡ slot edition (as_word w) }
 {
-    if low16(w) == NO_ADDRESS {
+    let has_no_address = low16(w) == NO_ADDRESS;
+    if has_no_address {
         if is_blank(w) {
             return Slot::Blank;
         }

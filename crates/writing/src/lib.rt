@@ -147,7 +147,8 @@ pub fn recover(image: &mut [u8], form: Form, allowance: u16) -> Stepped
     let mut values = [NO_VALUE; HELD_MAX];
     let store = store::open(image, form, &mut addresses, &mut values);
     let number = store.number;
-    if number != OK {
+    let is_refused = number != OK;
+    if is_refused {
         return refused(number);
     }
     let n = store.look.count;

@@ -3,8 +3,8 @@ use native.Mathlib.Omega.{arith}
 use Rattle.choosing.proofs.Telling.{no_groups, cut_short, no_settings, too_many, by_repeats}
 use Rattle.choosing.proofs.is_wrong_group.Goals as goal
 
-pub returns-then-edition-lt2 : goal.returns-then-edition-lt2
-returns-then-edition-lt2 c = let a = c.args in sym (no_groups a.edition a.entries.now (omega arith))
+pub returns-then-has_no_groups : goal.returns-then-has_no_groups
+returns-then-has_no_groups c = let a = c.args in sym (no_groups a.edition a.entries.now (omega arith))
 
 pub returns-then-entries-ne0 : goal.returns-then-entries-ne0
 returns-then-entries-ne0 c = let a = c.args in sym (cut_short a.edition a.entries.now (omega arith) c.if-entries-ne0.true)

@@ -44,24 +44,24 @@ module _ (c : After-count-broken) where
 pub open-store-requires : goal.open-store-requires
 open-store-requires c = record { lawful = c.requires.0; holds = holds_none }
 
-pub returns-then-number-ne-OK : goal.returns-then-number-ne-OK
-returns-then-number-ne-OK c =
-    let o = (goal.at.returns-then-number-ne-OK c).After-open-store in
+pub returns-then-is_refused : goal.returns-then-is_refused
+returns-then-is_refused c =
+    let o = (goal.at.returns-then-is_refused c).After-open-store in
     let n = (store o).number in
     let short = decimal_length n in
     let room : length (text_refused ++ decimal n ++ line_end) ≤ length (buffer o) = simp length-append (omega arith) in
-    rw (← listing_refused (form o) (image o) n (opens o).number c.if-number-ne-OK.true) (appends_written room c.put_refused.ensures)
+    rw (← listing_refused (form o) (image o) n (opens o).number c.if-is_refused.true) (appends_written room c.put_refused.ensures)
 
 pub count-broken-requires : goal.count-broken-requires
 count-broken-requires c =
     let o = opens (goal.at.count-broken-requires c).After-open-store in
-    let z = c.if-number-ne-OK.false in
+    let z = c.if-is_refused.false in
     record { lawful = c.requires.0; image_value = (pages_accepted o z, look_told o z) }
 
 pub put_first-at-requires : goal.put_first-at-requires
 put_first-at-requires c =
     let o = opens (goal.at.put_first-at-requires c).After-open-store in
-    let z = c.if-number-ne-OK.false in
+    let z = c.if-is_refused.false in
     let p = told_few (pages_accepted o z) (look_told o z) in
     record {
       count_bound = (p.0, p.1, p.2, (look_told o z).fits, told_held o z, c.count-broken.ensures.spoiled_bound);
@@ -73,13 +73,13 @@ put_settings-requires c =
     let s = c.open-store.result in
     let l = s.look in
     let b = c.count-broken.result in
-    let few = told_held (opens (goal.at.put_settings-requires c).After-open-store) c.if-number-ne-OK.false in
+    let few = told_held (opens (goal.at.put_settings-requires c).After-open-store) c.if-is_refused.false in
     (few, omega (arith, told_line_length l.count l.used l.cleared l.order s.held b.half b.spoiled))
 
 pub returns : goal.returns
 returns c =
     let o = (goal.at.returns c).After-open-store in
-    let z = c.if-number-ne-OK.false in
+    let z = c.if-is_refused.false in
     let counted = counts (goal.at.returns c).After-count-broken in
     let fits = listing_room (opens o) z counted in
     let lines = setting_lines (settings (pages (form o) (image o))) in

@@ -19,12 +19,12 @@ program_at-requires c =
     first_allowed (size (as_form a.form)) a.page a.place c.start.result c.start.ensures.value
     a.w.a a.w.b a.w.c a.w.d a.image.now a.left (search rules) s.requires.all_allowed
 
-pub returns-then-left-eq1 : goal.returns-then-left-eq1
-returns-then-left-eq1 c =
+pub returns-then-is_last : goal.returns-then-is_last
+returns-then-is_last c =
     let a = c.args in
     let o = c.start in
     let p = c.program_at in
-    let e : a.left ≡ 1 = c.if-left-eq1.true in record {
+    let e : a.left ≡ 1 = c.if-is_last.true in record {
       value = omega arith;
       image_after = one_done (size (as_form a.form)) a.page a.place o.result o.ensures.value a.w.a a.w.b a.w.c a.w.d
           a.image.now a.left p.new.image e p.ensures;

@@ -11,7 +11,7 @@ module _ (c : After-is_sound) where
   word_there = as_word c.args.w
 
   addressed : low16 word_there ≡ 65535 → ⊥
-  addressed e = c.if-low16-eq-NO_ADDRESS.false (c.low16.ensures ∙ e)
+  addressed e = c.if-has_no_address.false (c.low16-has_no_address.ensures ∙ e)
 
 pub returns-then-is_blank : goal.returns-then-is_blank
 returns-then-is_blank c =
@@ -20,7 +20,7 @@ returns-then-is_blank c =
 
 pub without_address-requires : goal.without_address-requires
 without_address-requires c = (
-  sym c.low16.ensures ∙ c.if-low16-eq-NO_ADDRESS.true,
+  sym c.low16-has_no_address.ensures ∙ c.if-has_no_address.true,
   sym c.is_blank.ensures ∙ c.if-is_blank.false,
 )
 

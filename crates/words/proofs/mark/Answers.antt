@@ -5,8 +5,8 @@ use Rattle.words.proofs.mark.Goals as goal
 pub returns-then-value-eq0 : goal.returns-then-value-eq0
 returns-then-value-eq0 c = λ w. rw c.if-value-eq0.true mark_zero
 
-pub returns-then-value-le8 : goal.returns-then-value-le8
-returns-then-value-le8 c = λ w. mark_opens c.args.value c.if-value-eq0.false (omega arith)
+pub returns-then-is_opening : goal.returns-then-is_opening
+returns-then-is_opening c = λ w. mark_opens c.args.value c.if-value-eq0.false (omega arith)
 
 pub returns-then-value-lt129 : goal.returns-then-value-lt129
 returns-then-value-lt129 c = λ w. mark_between c.args.value (omega arith) (omega arith)

@@ -20,9 +20,9 @@ module _ (c : Start) where
   high : c.args.w.b ≡ 255
   high = omega (arith, sum)
 
-pub returns-then-edition-lt2 : goal.returns-then-edition-lt2
+pub returns-then-has_no_groups : goal.returns-then-has_no_groups
 unfolding has_groups
-returns-then-edition-lt2 c =
+returns-then-has_no_groups c =
     let s = c.before in
     let w = s.args.w in
     let none = lt-leb 2 s.args.edition (omega arith) in

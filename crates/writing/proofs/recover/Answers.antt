@@ -17,7 +17,7 @@ use Rattle.store.specs.Opened.{Opens}
 use Rattle.store.proofs.Values.{store_ok, look_told}
 use Rattle.writing.proofs.Recovering.{look_few, look_within, active_32, mark_slot, mark_ready, recovered, not_recovered}
 use Rattle.writing.proofs.recover.Goals as goal
-use Rattle.writing.proofs.recover.Goals.{Start, After-open-store, After-unclean-picks, Else-number-ne-OK}
+use Rattle.writing.proofs.recover.Goals.{Start, After-open-store, After-unclean-picks, Else-is_refused}
 
 module _ (c : After-open-store) where
   abbrev entry : Start
@@ -35,16 +35,16 @@ module _ (c : After-open-store) where
   opens : Opens form image c.open-store.result c.open-store.new.addresses c.open-store.new.values
   opens = c.open-store.ensures
 
-module _ (c : Else-number-ne-OK) where
+module _ (c : Else-is_refused) where
   ok : store_number (form c.before) (image c.before) ≡ 0
-  ok = store_ok (opens c.before) c.if-number-ne-OK.false
+  ok = store_ok (opens c.before) c.if-is_refused.false
 
   told : Told (form c.before) (image c.before) (look c.before)
-  told = look_told (opens c.before) c.if-number-ne-OK.false
+  told = look_told (opens c.before) c.if-is_refused.false
 
 -- the pages that are picked, and the mark
 module _ (c : After-unclean-picks) where
-  abbrev right : Else-number-ne-OK
+  abbrev right : Else-is_refused
   right = c.before.before.before
 
   abbrev fm : Form
@@ -60,7 +60,7 @@ module _ (c : After-unclean-picks) where
   group = right.before.open-store.result.group
 
   grouped : group ≡ open_group (pages fm i)
-  grouped = ((opens right.before).holding right.if-number-ne-OK.false).grouped
+  grouped = ((opens right.before).holding right.if-is_refused.false).grouped
 
   abbrev picks : List Bool
   picks = c.unclean-picks.result
@@ -68,22 +68,22 @@ module _ (c : After-unclean-picks) where
 pub open-store-requires : goal.open-store-requires
 open-store-requires c = record { lawful = c.requires; holds = holds_none }
 
-pub returns-then-number-ne-OK : goal.returns-then-number-ne-OK
-returns-then-number-ne-OK c =
-    let first = (goal.at.returns-then-number-ne-OK c).After-open-store in
+pub returns-then-is_refused : goal.returns-then-is_refused
+returns-then-is_refused c =
+    let first = (goal.at.returns-then-is_refused c).After-open-store in
     let o = opens first in
     let r = c.refused.ensures in
     rw (r.0, r.1, r.2, o.number)
-    (sym (not_recovered (form first) (image first) (entry first).args.allowance (λ e. c.if-number-ne-OK.true (o.number ∙ e))))
+    (sym (not_recovered (form first) (image first) (entry first).args.allowance (λ e. c.if-is_refused.true (o.number ∙ e))))
 
 pub overflow_sub-renewed : goal.overflow_sub-renewed
-overflow_sub-renewed c = omega (arith, counted (told (goal.at.overflow_sub-renewed c).Else-number-ne-OK))
+overflow_sub-renewed c = omega (arith, counted (told (goal.at.overflow_sub-renewed c).Else-is_refused))
 
 pub overflow_sub-renewed-2 : goal.overflow_sub-renewed-2
-overflow_sub-renewed-2 c = omega (arith, counted (told (goal.at.overflow_sub-renewed-2 c).Else-number-ne-OK))
+overflow_sub-renewed-2 c = omega (arith, counted (told (goal.at.overflow_sub-renewed-2 c).Else-is_refused))
 
 pub unclean-picks-requires : goal.unclean-picks-requires
-unclean-picks-requires c = let right = c in look_few (told (goal.at.unclean-picks-requires c).Else-number-ne-OK) (ok (goal.at.unclean-picks-requires c).Else-number-ne-OK)
+unclean-picks-requires c = let right = c in look_few (told (goal.at.unclean-picks-requires c).Else-is_refused) (ok (goal.at.unclean-picks-requires c).Else-is_refused)
 
 -- it stands first, so that a recovery without its mark is refused for its image
 pub returns : goal.returns
