@@ -103,7 +103,8 @@ module _ {k : ℕ} {May : Type 0} where
     turns_later may (turn c p f t) l (later r) h = inr (through_left may t r)
     turns_later may (wait c p f t) between (later r) h = inl p
     turns_later may (wait c p f t) (failing x) (later r) h = inl (f may _ x)
-    turns_later {G = G} may (wait {s = s} {ss = ss} {F = F} c p f t) (later {n = n} l) (later {n = m} {s = u} {ss = us} {i = i} {j = j} r) h = turns_later {n = n} may t l r (le_of_suc-le-suc h)
+    turns_later {G = G} may (wait {s = s} {ss = ss} {F = F} c p f t) (later {n = n} l) (later {n = m} {s = u} {ss = us} {i = i} {j = j} r) h =
+        turns_later {n = n} may t l r (le_of_suc-le-suc h)
 
     pub turns_end : {ss : List Step} {F : Pages} → Turns k May Old New ss F → New (store_run k ss F)
     unfolding store_run

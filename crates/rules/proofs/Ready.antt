@@ -90,7 +90,8 @@ base_used (s ∷ ss) =
     let l = leb-false (base ss) (order₂ s) t in
     let e : max (order₂ s) (base ss) ≡ base ss = omega arith in
     ⊎_elim (λ (z : base ss ≡ 0). absurd (omega arith))
-    (λ (c : 0 < count (used (base ss)) ss). inr (subst (λ (b : ℕ). 0 < count (used b) (s ∷ ss)) (sym e) (more (used (base ss) s) (count (used (base ss)) ss) c))) rest)
+    (λ (c : 0 < count (used (base ss)) ss).
+    inr (subst (λ (b : ℕ). 0 < count (used b) (s ∷ ss)) (sym e) (more (used (base ss) s) (count (used (base ss)) ss) c))) rest)
   where
     more : (b : Bool) (n : ℕ) → 0 < n → 0 < cond b 1 0 + n
     more true n h = omega arith

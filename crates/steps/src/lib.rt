@@ -203,8 +203,8 @@ pub fn copy(
     left: u16,
 ) -> u16
     requires lawful { Lawful form × (page < 32) × (held ≤ 192) × (length (copied addresses values held (triples entries.now)) ≤ form.slots) }
-    requires all_allowed { AllAllowed (size (as_form form)) (take left (slots_steps page 0 (map record_of (copied addresses values held (triples entries.now)))))
-        image.old }
+    requires all_allowed { AllAllowed (size (as_form form))
+        (take left (slots_steps page 0 (map record_of (copied addresses values held (triples entries.now))))) image.old }
     ensures value { result ≡ left - length (slots_steps page 0 (map record_of (copied addresses values held (triples entries.now)))) }
     ensures image_after { image.new ≡ run (size (as_form form)) (take left (slots_steps page 0 (map record_of (copied addresses values held
         (triples entries.now))))) image.old }

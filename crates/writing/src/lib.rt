@@ -297,8 +297,8 @@ fn move_to<'a>(
     requires lawful { Lawful form × (page < n) × (n ≤ 32) × (length image.old ≡ n * size (as_form form)) × (order < 4194304) × (held ≤ 192)
         × (length entries.now ≤ 26) }
     requires tabled { Tabled addresses.now values.now held (triples entries.now) }
-    requires all_allowed { AllAllowed (size (as_form form)) (take allowance (fill_steps page order (copied addresses.now values.now held (triples entries.now))))
-        image.old }
+    requires all_allowed { AllAllowed (size (as_form form))
+        (take allowance (fill_steps page order (copied addresses.now values.now held (triples entries.now)))) image.old }
     ensures { Does (as_form form) allowance
         (move_steps form.edition page order (copied addresses.now values.now held (triples entries.now))
         (first_pages (as_form form) n image.old))

@@ -49,43 +49,51 @@ bounds-line-k c = omega (arith, (told_few c.requires.image_value.0 c.requires.im
 
 pub of_page-requires : goal.of_page-requires
 of_page-requires c =
-    let at = line_places c.requires.image_value.0 c.requires.image_value.1 (k (goal.at.of_page-requires c).In-loop-k) (more (goal.at.of_page-requires c).In-loop-k) in
-    (c.requires.lawful, omega arith, within (goal.at.of_page-requires c).In-loop-k)
+    let in_loop_k = (goal.at.of_page-requires c).In-loop-k in
+    let at = line_places c.requires.image_value.0 c.requires.image_value.1 (k in_loop_k) (more in_loop_k) in
+    (c.requires.lawful, omega arith, within in_loop_k)
 
 pub and-broken-requires : goal.and-broken-requires
 and-broken-requires c =
-    let t = c in
-    let here = page_few (form (goal.at.and-broken-requires c).In-loop-k) (place (goal.at.and-broken-requires c).In-loop-k) (image (goal.at.and-broken-requires c).In-loop-k) (within (goal.at.and-broken-requires c).In-loop-k) c.of_page.ensures in
-    let so_far = t.loop-k.invariant.1 in
+    let in_loop_k = (goal.at.and-broken-requires c).In-loop-k in
+    let here = page_few (form in_loop_k) (place in_loop_k) (image in_loop_k) (within in_loop_k) c.of_page.ensures in
+    let so_far = c.loop-k.invariant.1 in
     let most = c.requires.lawful.1 in
-    let n = few (goal.at.and-broken-requires c).In-loop-k in
-    let m = more (goal.at.and-broken-requires c).In-loop-k in
+    let n = few in_loop_k in
+    let m = more in_loop_k in
     (omega arith, omega arith)
 
 pub overflow_add-k : goal.overflow_add-k
-overflow_add-k c = omega (arith, few (goal.at.overflow_add-k c).In-loop-k, more (goal.at.overflow_add-k c).In-loop-k)
+overflow_add-k c =
+    let in_loop_k = (goal.at.overflow_add-k c).In-loop-k in
+    omega (arith, few in_loop_k, more in_loop_k)
 
 pub loop-k-smaller : goal.loop-k-smaller
 loop-k-smaller c = omega arith
 
 pub loop-k-preserved : goal.loop-k-preserved
 loop-k-preserved c =
-    let t = c in
-    let l = t.loop-k in
-    let here = page_few (form (goal.at.loop-k-preserved c).In-loop-k) (place (goal.at.loop-k-preserved c).In-loop-k) (image (goal.at.loop-k-preserved c).In-loop-k) (within (goal.at.loop-k-preserved c).In-loop-k) c.of_page.ensures in
+    let in_loop_k = (goal.at.loop-k-preserved c).In-loop-k in
+    let l = c.loop-k in
+    let here = page_few (form in_loop_k) (place in_loop_k) (image in_loop_k) (within in_loop_k) c.of_page.ensures in
     let long = c.requires.image_value.1.line.long in
     let line = c.args.look.line in (
       omega arith,
       omega (arith, here, c.requires.lawful.1, l.invariant.1, c.and-broken.ensures.0, c.and-broken.ensures.1),
-      rw (next_page (form (goal.at.loop-k-preserved c).In-loop-k) (image (goal.at.loop-k-preserved c).In-loop-k) line (k (goal.at.loop-k-preserved c).In-loop-k) (omega (arith, more (goal.at.loop-k-preserved c).In-loop-k))) (counts_more l.invariant.2 c.of_page.ensures c.and-broken.ensures),
+      rw (next_page (form in_loop_k) (image in_loop_k) line (k in_loop_k) (omega (arith, more in_loop_k)))
+          (counts_more l.invariant.2 c.of_page.ensures c.and-broken.ensures),
     )
 
 pub returns : goal.returns
 returns c =
-    let start = c in
     let l = c.loop-k in
-    let look = start.args.look in
+    let look = c.args.look in
     let line = look.line in
-    let fm = as_form start.args.form in
-    let image = start.args.image.now in
-    let done : l.k ≡ look.used = omega arith in record { counts = line_counts fm image line start.requires.image_value.1.line (subst (λ (n : ℕ). Counts (first_conditions fm image line n) l.broken) done l.invariant.2); spoiled_bound = omega (arith, l.invariant.1, (told_few start.requires.image_value.0 start.requires.image_value.1).1) }
+    let fm = as_form c.args.form in
+    let image = c.args.image.now in
+    let done : l.k ≡ look.used = omega arith in
+    record {
+      counts = line_counts fm image line c.requires.image_value.1.line
+          (subst (λ (n : ℕ). Counts (first_conditions fm image line n) l.broken) done l.invariant.2);
+      spoiled_bound = omega (arith, l.invariant.1, (told_few c.requires.image_value.0 c.requires.image_value.1).1);
+    }

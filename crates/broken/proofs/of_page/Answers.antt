@@ -11,7 +11,6 @@ use Rattle.broken.proofs.of_page.Goals as goal
 
 pub returns : goal.returns
 returns c =
-    let start = c in
-    let a = start.args in
-    let whole = c.slots_of.ensures.result_value ∙ slots_all (as_form a.form) a.page a.image.now start.requires.2 in
+    let a = c.args in
+    let whole = c.slots_of.ensures.result_value ∙ slots_all (as_form a.form) a.page a.image.now c.requires.2 in
     subst (λ (ws : List Word). Counts (conditions outside (map (slot a.form.edition) ws)) c.of_slots.result) whole c.of_slots.ensures

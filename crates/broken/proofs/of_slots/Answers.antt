@@ -62,9 +62,10 @@ of_slot-requires c = tt
 
 pub and-broken-requires : goal.and-broken-requires
 and-broken-requires c =
-    let s = c in
-    let l = s.loop-k in
-    let one = counts_few (c.of_slot.ensures (at (goal.at.and-broken-requires c).After-in_slot-s) (take (k (goal.at.and-broken-requires c).After-in_slot-s) (words (slots (goal.at.and-broken-requires c).After-in_slot-s))) (here (goal.at.and-broken-requires c).After-in_slot-s) l.invariant.3) in
+    let after_in_slot_s = (goal.at.and-broken-requires c).After-in_slot-s in
+    let l = c.loop-k in
+    let one = counts_few (c.of_slot.ensures (at after_in_slot_s) (take (k after_in_slot_s) (words (slots after_in_slot_s))) (here after_in_slot_s)
+    l.invariant.3) in
     let few = l.invariant.1 in
     (omega arith, omega arith)
 
@@ -79,19 +80,26 @@ loop-k-smaller c = omega arith
 
 pub loop-k-preserved : goal.loop-k-preserved
 loop-k-preserved c =
-    let s = c in
-    let l = s.loop-k in
-    let xs = take (k (goal.at.loop-k-preserved c).After-in_slot-s) (words (slots (goal.at.loop-k-preserved c).After-in_slot-s)) in
-    let one = c.of_slot.ensures (at (goal.at.loop-k-preserved c).After-in_slot-s) xs (here (goal.at.loop-k-preserved c).After-in_slot-s) l.invariant.3 in
+    let after_in_slot_s = (goal.at.loop-k-preserved c).After-in_slot-s in
+    let l = c.loop-k in
+    let xs = take (k after_in_slot_s) (words (slots after_in_slot_s)) in
+    let one = c.of_slot.ensures (at after_in_slot_s) xs (here after_in_slot_s) l.invariant.3 in
     let sum = c.and-broken.ensures in
-    let next = c.behind-place.ensures (at (goal.at.loop-k-preserved c).After-in_slot-s) xs (here (goal.at.loop-k-preserved c).After-in_slot-s) l.invariant.3 (ap (λ n. n + 1) (taken_many (slots (goal.at.loop-k-preserved c).After-in_slot-s) (k (goal.at.loop-k-preserved c).After-in_slot-s) l.invariant.0)) (proper (goal.at.loop-k-preserved c).After-in_slot-s) in
-    let long : 4 * k (goal.at.loop-k-preserved c).After-in_slot-s + 4 ≤ length (slots (goal.at.loop-k-preserved c).After-in_slot-s) = omega arith in
-    let read = s.word_at.ensures in
-    let told = s.in_slot-s.ensures in (
+    let next = c.behind-place.ensures (at after_in_slot_s) xs (here after_in_slot_s) l.invariant.3
+    (ap (λ n. n + 1) (taken_many (slots after_in_slot_s) (k after_in_slot_s) l.invariant.0)) (proper after_in_slot_s) in
+    let long : 4 * k after_in_slot_s + 4 ≤ length (slots after_in_slot_s) = omega arith in
+    let read = c.word_at.ensures in
+    let told = c.in_slot-s.ensures in (
       omega arith,
       omega (arith, counts_few one, l.invariant.1, sum.0, sum.1),
-      rw (next_slot (edition (goal.at.loop-k-preserved c).After-in_slot-s) (slots (goal.at.loop-k-preserved c).After-in_slot-s) (k (goal.at.loop-k-preserved c).After-in_slot-s) long, ← read, ← told) (counts_more l.invariant.2 one sum),
-      rw (next_place (edition (goal.at.loop-k-preserved c).After-in_slot-s) (slots (goal.at.loop-k-preserved c).After-in_slot-s) (k (goal.at.loop-k-preserved c).After-in_slot-s) long, next_word (slots (goal.at.loop-k-preserved c).After-in_slot-s) (k (goal.at.loop-k-preserved c).After-in_slot-s) long, ← read, ← told) next,
+      rw (next_slot (edition after_in_slot_s) (slots after_in_slot_s) (k after_in_slot_s) long, ← read, ← told) (counts_more l.invariant.2 one sum),
+      rw (
+        next_place (edition after_in_slot_s) (slots after_in_slot_s) (k after_in_slot_s) long,
+        next_word (slots after_in_slot_s) (k after_in_slot_s)
+            long,
+        ← read,
+        ← told,
+      ) next,
     )
 
 pub returns : goal.returns

@@ -10,16 +10,13 @@ use Rattle.changes.proofs.a_foreign.Goals.{After-owns}
 
 -- what was asked of the k-th address
 module _ (c : After-owns) where
-  abbrev at : After-owns
-  at = c
-
   abbrev lent : List ℕ
-  lent = at.args.entries.now
+  lent = c.args.entries.now
 
   abbrev owner : Owner
-  owner = named_owner at.args.timer
+  owner = named_owner c.args.timer
 
-  asked : owner.owns (byte_address lent at.loop-i.i) ≡ c.owns.result
+  asked : owner.owns (byte_address lent c.loop-i.i) ≡ c.owns.result
   asked = sym (ap owner.owns c.address_at.ensures) ∙ sym c.owns.ensures
 
 pub loop-i-init : goal.loop-i-init
@@ -30,9 +27,9 @@ address_at-requires c = omega arith
 
 pub returns-then-not-owns : goal.returns-then-not-owns
 returns-then-not-owns c =
-    let w = c in
-    let l = (at (goal.at.returns-then-not-owns c).After-owns).loop-i in
-    sym (l.invariant.1 ∙ foreign_here (lent (goal.at.returns-then-not-owns c).After-owns) l.i (owner (goal.at.returns-then-not-owns c).After-owns) (omega arith) (asked (goal.at.returns-then-not-owns c).After-owns ∙ c.if-not-owns.true))
+    let after_owns = (goal.at.returns-then-not-owns c).After-owns in
+    let l = c.loop-i in
+    sym (l.invariant.1 ∙ foreign_here (lent after_owns) l.i (owner after_owns) (omega arith) (asked after_owns ∙ c.if-not-owns.true))
 
 pub overflow_add-i : goal.overflow_add-i
 overflow_add-i c = omega arith
@@ -42,9 +39,9 @@ loop-i-smaller c = omega arith
 
 pub loop-i-preserved : goal.loop-i-preserved
 loop-i-preserved c =
-    let w = c in
-    let l = (at (goal.at.loop-i-preserved c).After-owns).loop-i in
-    (omega arith, l.invariant.1 ∙ foreign_later (lent (goal.at.loop-i-preserved c).After-owns) l.i (owner (goal.at.loop-i-preserved c).After-owns) (omega arith) (asked (goal.at.loop-i-preserved c).After-owns ∙ c.if-not-owns.false))
+    let after_owns = (goal.at.loop-i-preserved c).After-owns in
+    let l = c.loop-i in
+    (omega arith, l.invariant.1 ∙ foreign_later (lent after_owns) l.i (owner after_owns) (omega arith) (asked after_owns ∙ c.if-not-owns.false))
 
 pub returns : goal.returns
 returns c =

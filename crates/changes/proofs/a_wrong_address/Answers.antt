@@ -11,10 +11,9 @@ address_at-requires c = omega arith
 
 pub returns-then-address_at-ge-NO_ADDRESS : goal.returns-then-address_at-ge-NO_ADDRESS
 returns-then-address_at-ge-NO_ADDRESS c =
-    let at = c in
-    let l = at.loop-i in
-    let a = at.args in
-    sym (l.invariant.1 ∙ wrong_here a.entries.now l.i (omega arith) (omega (arith, at.address_at.ensures)))
+    let l = c.loop-i in
+    let a = c.args in
+    sym (l.invariant.1 ∙ wrong_here a.entries.now l.i (omega arith) (omega (arith, c.address_at.ensures)))
 
 pub overflow_add-i : goal.overflow_add-i
 overflow_add-i c = omega arith
@@ -24,10 +23,9 @@ loop-i-smaller c = omega arith
 
 pub loop-i-preserved : goal.loop-i-preserved
 loop-i-preserved c =
-    let at = c in
-    let l = at.loop-i in
-    let a = at.args in
-    (omega arith, l.invariant.1 ∙ wrong_later a.entries.now l.i (omega arith) (omega (arith, at.address_at.ensures)))
+    let l = c.loop-i in
+    let a = c.args in
+    (omega arith, l.invariant.1 ∙ wrong_later a.entries.now l.i (omega arith) (omega (arith, c.address_at.ensures)))
 
 pub returns : goal.returns
 returns c =

@@ -11,10 +11,9 @@ address_at-requires c = omega arith
 
 pub returns-then-address_at-address : goal.returns-then-address_at-address
 returns-then-address_at-address c =
-    let at = c in
-    let l = at.loop-i in
-    let a = at.args in
-    sym (l.invariant.2 ∙ named_here a.entries.now l.i a.address (omega arith) (sym at.address_at.ensures ∙ c.if-address_at-address.true))
+    let l = c.loop-i in
+    let a = c.args in
+    sym (l.invariant.2 ∙ named_here a.entries.now l.i a.address (omega arith) (sym c.address_at.ensures ∙ c.if-address_at-address.true))
 
 pub overflow_add-i : goal.overflow_add-i
 overflow_add-i c = omega arith
@@ -24,12 +23,11 @@ loop-i-smaller c = omega arith
 
 pub loop-i-preserved : goal.loop-i-preserved
 loop-i-preserved c =
-    let at = c in
-    let l = at.loop-i in
-    let a = at.args in (
+    let l = c.loop-i in
+    let a = c.args in (
       omega arith,
       omega arith,
-      l.invariant.2 ∙ named_later a.entries.now l.i a.address (omega arith) (λ e. c.if-address_at-address.false (at.address_at.ensures ∙ e)),
+      l.invariant.2 ∙ named_later a.entries.now l.i a.address (omega arith) (λ e. c.if-address_at-address.false (c.address_at.ensures ∙ e)),
     )
 
 pub returns : goal.returns

@@ -19,12 +19,11 @@ names_from-requires c = omega arith
 
 pub returns-then-names_from : goal.returns-then-names_from
 returns-then-names_from c =
-    let n = c in
-    let at = n.before in
+    let at = c.before in
     let l = at.loop-i in
     let a = at.args in
     let named = ap (λ x. among x (addresses_from a.entries.now (l.i + 1))) (sym at.address_at.ensures)
-    ∙ sym n.names_from.ensures ∙ c.if-names_from.true in
+    ∙ sym c.names_from.ensures ∙ c.if-names_from.true in
     sym (l.invariant.1 ∙ again_here a.entries.now l.i (omega arith) named)
 
 pub overflow_add-i-in-loop-i : goal.overflow_add-i-in-loop-i
@@ -35,11 +34,10 @@ loop-i-smaller c = omega arith
 
 pub loop-i-preserved : goal.loop-i-preserved
 loop-i-preserved c =
-    let n = c in
-    let at = n.before in
+    let at = c.before in
     let l = at.loop-i in
     let a = at.args in
-    let named = ap (λ x. among x (addresses_from a.entries.now (l.i + 1))) (sym at.address_at.ensures) ∙ sym n.names_from.ensures ∙ c.if-names_from.false in
+    let named = ap (λ x. among x (addresses_from a.entries.now (l.i + 1))) (sym at.address_at.ensures) ∙ sym c.names_from.ensures ∙ c.if-names_from.false in
     (omega arith, l.invariant.1 ∙ again_later a.entries.now l.i (omega arith) named)
 
 pub returns : goal.returns

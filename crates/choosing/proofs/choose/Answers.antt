@@ -160,68 +160,77 @@ module _ (g : Else-is_full) {i : List ℕ} (o : From (start (tests (asked (fille
 
 pub first_tests-number-requires : goal.first_tests-number-requires
 first_tests-number-requires c =
-    let s = c in
-    let from = s.requires.opened in
-    (λ z. used_few (look_told from.opens z) (store_ok from.opens z), s.requires.lent)
+    let from = c.requires.opened in
+    (λ z. used_few (look_told from.opens z) (store_ok from.opens z), c.requires.lent)
 
 pub returns-then-number-ne-OK : goal.returns-then-number-ne-OK
 returns-then-number-ne-OK c =
     λ i o.
     let s = (goal.at.returns-then-number-ne-OK c).Start in
-    refused (form s) (owner s) (change s) i c.first_tests-number.result c.if-number-ne-OK.true ((c.first_tests-number.ensures i _ _ o).refused c.if-number-ne-OK.true)
+    refused (form s) (owner s) (change s) i c.first_tests-number.result c.if-number-ne-OK.true
+    ((c.first_tests-number.ensures i _ _ o).refused c.if-number-ne-OK.true)
 
 pub told_of-known-requires : goal.told_of-known-requires
-told_of-known-requires c = omega (arith, short (goal.at.told_of-known-requires c).Else-number-ne-OK (start (goal.at.told_of-known-requires c).Else-number-ne-OK).requires.opened.opens)
+told_of-known-requires c =
+    let else_number_ne_ok = (goal.at.told_of-known-requires c).Else-number-ne-OK in
+    omega (arith, short else_number_ne_ok (start else_number_ne_ok).requires.opened.opens)
 
 pub returns-then-known : goal.returns-then-known
 returns-then-known c =
+    let else_number_ne_ok = (goal.at.returns-then-known c).Else-number-ne-OK in
     λ i o.
-    let e = c in
-    let t = of_tests (goal.at.returns-then-known c).Else-number-ne-OK o in
-    let z = e.if-number-ne-OK.false in
+    let t = of_tests else_number_ne_ok o in
+    let z = c.if-number-ne-OK.false in
     let same = same_is (goal.at.returns-then-known c).After-told_of-known o ∙ c.if-known.true in
-    stays (fm (goal.at.returns-then-known c).Else-number-ne-OK o) (by (goal.at.returns-then-known c).Else-number-ne-OK o) (ch (goal.at.returns-then-known c).Else-number-ne-OK o) i
-    (write_same (fm (goal.at.returns-then-known c).Else-number-ne-OK o) (by (goal.at.returns-then-known c).Else-number-ne-OK o) (ch (goal.at.returns-then-known c).Else-number-ne-OK o) i (ok (goal.at.returns-then-known c).Else-number-ne-OK o) (t.clean z) (t.grouped z) (far (goal.at.returns-then-known c).Else-number-ne-OK o) (own (goal.at.returns-then-known c).Else-number-ne-OK o) same) same
+    stays (fm else_number_ne_ok o) (by else_number_ne_ok o) (ch else_number_ne_ok o) i
+    (write_same (fm else_number_ne_ok o) (by else_number_ne_ok o) (ch else_number_ne_ok o) i (ok else_number_ne_ok o) (t.clean z) (t.grouped z)
+    (far else_number_ne_ok o) (own else_number_ne_ok o) same) same
 
 pub is_full-requires : goal.is_full-requires
 is_full-requires c =
-    let t = c in
-    let o = (start (goal.at.is_full-requires c).Else-number-ne-OK).requires.opened.opens in
-    let new = t.told_of-known.ensures.result_in_bounds in
-    let few = length_triples (start (goal.at.is_full-requires c).Else-number-ne-OK).args.entries.now in
-    record { has = (pages (at (goal.at.is_full-requires c).After-told_of-known o) (start (goal.at.is_full-requires c).Else-number-ne-OK).requires.opened.image, tabled (goal.at.is_full-requires c).After-told_of-known o); bound = omega (arith, short (goal.at.is_full-requires c).Else-number-ne-OK o) }
+    let else_number_ne_ok = (goal.at.is_full-requires c).Else-number-ne-OK in
+    let after_told_of_known = (goal.at.is_full-requires c).After-told_of-known in
+    let o = (start else_number_ne_ok).requires.opened.opens in
+    let new = c.told_of-known.ensures.result_in_bounds in
+    let few = length_triples (start else_number_ne_ok).args.entries.now in
+    record {
+      has = (pages (at after_told_of_known o) (start else_number_ne_ok).requires.opened.image, tabled after_told_of_known o);
+      bound = omega (arith, short else_number_ne_ok o);
+    }
 
 pub returns-then-is_full : goal.returns-then-is_full
 returns-then-is_full c =
+    let else_number_ne_ok = (goal.at.returns-then-is_full c).Else-number-ne-OK in
+    let after_is_full = (goal.at.returns-then-is_full c).After-is_full in
     λ i o.
-    let f = c in
-    let e = c in
-    let k = of_tests (goal.at.returns-then-is_full c).Else-number-ne-OK o in
-    let z = e.if-number-ne-OK.false in
-    refused (fm (goal.at.returns-then-is_full c).Else-number-ne-OK o) (by (goal.at.returns-then-is_full c).Else-number-ne-OK o) (ch (goal.at.returns-then-is_full c).Else-number-ne-OK o) i 6 (λ n. omega arith)
-    (write_full (fm (goal.at.returns-then-is_full c).Else-number-ne-OK o) (by (goal.at.returns-then-is_full c).Else-number-ne-OK o) (ch (goal.at.returns-then-is_full c).Else-number-ne-OK o) i (ok (goal.at.returns-then-is_full c).Else-number-ne-OK o) (k.clean z) (k.grouped z) (far (goal.at.returns-then-is_full c).Else-number-ne-OK o) (own (goal.at.returns-then-is_full c).Else-number-ne-OK o) (some_new (goal.at.returns-then-is_full c).After-is_full o) (room_is (goal.at.returns-then-is_full c).After-is_full o ∙ c.if-is_full.true))
+    let k = of_tests else_number_ne_ok o in
+    let z = c.if-number-ne-OK.false in
+    refused (fm else_number_ne_ok o) (by else_number_ne_ok o) (ch else_number_ne_ok o) i 6 (λ n. omega arith)
+    (write_full (fm else_number_ne_ok o) (by else_number_ne_ok o) (ch else_number_ne_ok o) i (ok else_number_ne_ok o) (k.clean z) (k.grouped z)
+    (far else_number_ne_ok o) (own else_number_ne_ok o) (some_new after_is_full o) (room_is after_is_full o ∙ c.if-is_full.true))
 
 pub overflow_sub-form : goal.overflow_sub-form
-overflow_sub-form c = let e = c in (told (goal.at.overflow_sub-form c).Else-number-ne-OK (start (goal.at.overflow_sub-form c).Else-number-ne-OK).requires.opened.opens).room
+overflow_sub-form c =
+    let else_number_ne_ok = (goal.at.overflow_sub-form c).Else-number-ne-OK in
+    (told else_number_ne_ok (start else_number_ne_ok).requires.opened.opens).room
 
 pub returns-then-slots_of-form : goal.returns-then-slots_of-form
 returns-then-slots_of-form c =
+    let else_is_full = (goal.at.returns-then-slots_of-form c).Else-is_full in
     λ i o.
-    let g = c in
-    let many = words_many (goal.at.returns-then-slots_of-form c).Else-is_full o c.slots_of.ensures in
-    let free = (told (e (goal.at.returns-then-slots_of-form c).Else-is_full o) o).room in
-    programmed (goal.at.returns-then-slots_of-form c).Else-is_full o (omega arith)
+    let many = words_many else_is_full o c.slots_of.ensures in
+    let free = (told (e else_is_full o) o).room in
+    programmed else_is_full o (omega arith)
 
 pub new_page-requires : goal.new_page-requires
 new_page-requires c =
-    let e = c in
-    (told (goal.at.new_page-requires c).Else-number-ne-OK (start (goal.at.new_page-requires c).Else-number-ne-OK).requires.opened.opens).fits
+    let else_number_ne_ok = (goal.at.new_page-requires c).Else-number-ne-OK in
+    (told else_number_ne_ok (start else_number_ne_ok).requires.opened.opens).fits
 
 pub returns : goal.returns
 returns c =
+    let else_is_full = (goal.at.returns c).Else-is_full in
     λ i o.
-    let after4 = c in
-    let g = c in
-    let many = words_many (goal.at.returns c).Else-is_full o after4.slots_of.ensures in
-    let free = (told (e (goal.at.returns c).Else-is_full o) o).room in
-    opened (goal.at.returns c).Else-is_full o (omega arith) c.new_page.ensures
+    let many = words_many else_is_full o c.slots_of.ensures in
+    let free = (told (e else_is_full o) o).room in
+    opened else_is_full o (omega arith) c.new_page.ensures

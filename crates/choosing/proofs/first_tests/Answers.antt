@@ -84,7 +84,8 @@ returns-then-number-ne-OK c =
     (write_store (form s) (owner s) (change s) i (λ e. ne (o.number ∙ e)) ∙ sym o.number)
 
 pub overflow_add-store : goal.overflow_add-store
-overflow_add-store c = let s = c in omega (arith, s.requires.0 c.if-number-ne-OK.false)
+overflow_add-store c =
+    omega (arith, c.requires.0 c.if-number-ne-OK.false)
 
 pub returns-then-store : goal.returns-then-store
 returns-then-store c =

@@ -20,8 +20,6 @@ overflow_add-result c = omega (arith, c.held_by.ensures.upper_bound, c.requires.
 
 pub returns : goal.returns
 returns c =
-    let after2 = c in
-    let after1 = c in
-    let timer = after1.args.timer in
+    let timer = c.args.timer in
     λ ps rs h is.
-    by_owner ps h (named_owner timer) rs is after1.if-is_nothing_new.false (omega arith) (c.most-most.ensures timer) (c.held_by.ensures.value ps h)
+    by_owner ps h (named_owner timer) rs is c.if-is_nothing_new.false (omega arith) (c.most-most.ensures timer) (c.held_by.ensures.value ps h)

@@ -21,6 +21,5 @@ returns-then-entries-gt24 c =
 
 pub returns : goal.returns
 returns c =
-    let few = c in
-    let a = few.args in
-    c.repeats.ensures ∙ sym (by_repeats a.edition a.entries.now (omega arith) (omega arith) few.if-entries-eq0.false (omega arith))
+    let a = c.args in
+    c.repeats.ensures ∙ sym (by_repeats a.edition a.entries.now (omega arith) (omega arith) c.if-entries-eq0.false (omega arith))

@@ -11,8 +11,7 @@ loop-i-init c = (omega arith, best_none c.args.spares.now, refl)
 
 pub loop-i-preserved : goal.loop-i-preserved
 loop-i-preserved c =
-    let here = c in
-    (omega arith, best_more here.args.spares.now here.loop-i.i here.loop-i.invariant.1 c.or-best.ensures.result_value, c.or-best.ensures.plain here.loop-i.invariant.2)
+    (omega arith, best_more c.args.spares.now c.loop-i.i c.loop-i.invariant.1 c.or-best.ensures.result_value, c.or-best.ensures.plain c.loop-i.invariant.2)
 
 pub returns : goal.returns
 unfolding Plain

@@ -30,9 +30,8 @@ loop-k-smaller c = omega arith
 
 pub loop-k-preserved : goal.loop-k-preserved
 loop-k-preserved c =
-    let here = c in
-    let a = here.args in
-    let l = here.loop-k in
+    let a = c.args in
+    let l = c.loop-k in
     let s = a.entries.now in
     let d = c.with-known.ensures in
     let f = c.value_in-found in
@@ -49,4 +48,8 @@ pub returns : goal.returns
 returns c =
     let l = c.loop-k in
     let s = c.args.entries.now in
-    let all = all_entries s l.k (omega arith) in record { knows = λ ps held few holds right. subst (λ (rs : List Setting). Knows ps rs l.known) all (l.invariant.2 ps held few holds right); result_in_bounds = omega (arith, length_triples s) }
+    let all = all_entries s l.k (omega arith) in
+    record {
+      knows = λ ps held few holds right. subst (λ (rs : List Setting). Knows ps rs l.known) all (l.invariant.2 ps held few holds right);
+      result_in_bounds = omega (arith, length_triples s);
+    }

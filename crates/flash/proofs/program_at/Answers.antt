@@ -17,11 +17,9 @@ slice_bounds-program-start c = omega (arith, long (goal.at.slice_bounds-program-
 
 pub program-requires : goal.program-requires
 program-requires c =
-    let s = c in
-    may_program_rest s.args.at s.args.image.now 255 255 s.requires
+    may_program_rest c.args.at c.args.image.now 255 255 c.requires
 
 pub returns : goal.returns
 returns c =
-    let s = c in
     let p = c.program in
-    programmed_rest s.args.at s.args.image.now p.new.half s.args.low s.args.high (long (goal.at.returns c).Start) p.ensures
+    programmed_rest c.args.at c.args.image.now p.new.half c.args.low c.args.high (long (goal.at.returns c).Start) p.ensures

@@ -20,27 +20,20 @@ formats n second i chip e {f} is h =
 
 pub returns-in-Chip : goal.returns-in-Chip
 returns-in-Chip c =
-    let called = c in
-    let formed = c in
-    let edition = c in
-    let known = c in
-    let named = c in
-    let a = named.args in
-    let chip = as_chip known.in-Chip.chip in
-    let e = sym named.chip_of.ensures.result_value ∙ ap as_named known.in-Chip.is in
-    let is = formed.form.ensures.result_value ∙ ap (in_edition chip) edition.told.ensures in
-    formats a.page_size a.second a.image.now chip e is (called.format.ensures.value, called.format.ensures.image_after)
+    let a = c.args in
+    let chip = as_chip c.in-Chip.chip in
+    let e = sym c.chip_of.ensures.result_value ∙ ap as_named c.in-Chip.is in
+    let is = c.form.ensures.result_value ∙ ap (in_edition chip) c.told.ensures in
+    formats a.page_size a.second a.image.now chip e is (c.format.ensures.value, c.format.ensures.image_after)
 
 pub returns-in-Nothing : goal.returns-in-Nothing
 returns-in-Nothing c =
-    let named = c in
-    let a = named.args in
-    let e = sym named.chip_of.ensures.result_value ∙ ap as_named c.in-Nothing.is in
+    let a = c.args in
+    let e = sym c.chip_of.ensures.result_value ∙ ap as_named c.in-Nothing.is in
     let i = a.image.now in
     let is = on_none (chip_of a.page_size) e (refused_format SIZE i) (λ chip. format (told_form chip a.second) i) in
     (sym (ap (λ (f : Formatted). f.number) is), sym (ap (λ (f : Formatted). f.image) is))
 
 pub format-requires : goal.format-requires
 format-requires c =
-    let known = c in
-    c.form.ensures.lawful (subst LawfulNamed known.in-Chip.is known.chip_of.ensures.lawful_named)
+    c.form.ensures.lawful (subst LawfulNamed c.in-Chip.is c.chip_of.ensures.lawful_named)

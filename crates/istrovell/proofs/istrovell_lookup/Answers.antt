@@ -6,24 +6,19 @@ use Rattle.istrovell.proofs.istrovell_lookup.Goals as goal
 
 pub returns-in-Right : goal.returns-in-Right
 returns-in-Right c =
-    let known = c in
-    let sized = c in
-    let a = sized.args in
+    let a = c.args in
     let i = a.image.now in
-    sized_right a.page_size i sized.form_at.ensures (refused_lookup SIZE) (λ f. lookup f i) known.in-Right.is
+    sized_right a.page_size i c.form_at.ensures (refused_lookup SIZE) (λ f. lookup f i) c.in-Right.is
     c.lookup.ensures
 
 pub returns-in-Wrong : goal.returns-in-Wrong
 returns-in-Wrong c =
-    let sized = c in
-    let a = sized.args in
+    let a = c.args in
     let i = a.image.now in
-    sized_wrong a.page_size i sized.form_at.ensures (refused_lookup SIZE) (λ f. lookup f i) c.in-Wrong.is
+    sized_wrong a.page_size i c.form_at.ensures (refused_lookup SIZE) (λ f. lookup f i) c.in-Wrong.is
     (λ f w. lookup_wrong f i w) c.refused_lookup.ensures
 
 pub lookup-requires : goal.lookup-requires
 lookup-requires c =
-    let known = c in
-    let sized = c in
-    let a = sized.args in
-    sized_lawful a.page_size a.image.now sized.form_at.ensures known.in-Right.is
+    let a = c.args in
+    sized_lawful a.page_size a.image.now c.form_at.ensures c.in-Right.is

@@ -7,26 +7,21 @@ use Rattle.istrovell.proofs.istrovell_read.Goals as goal
 
 pub returns-in-Right : goal.returns-in-Right
 returns-in-Right c =
-    let known = c in
-    let sized = c in
-    let a = sized.args in
+    let a = c.args in
     let i = a.image.now in
     let o = named_owner a.timer in
-    sized_right a.page_size i sized.form_at.ensures (refused_reading SIZE) (λ f. read f o a.address i) known.in-Right.is
+    sized_right a.page_size i c.form_at.ensures (refused_reading SIZE) (λ f. read f o a.address i) c.in-Right.is
     c.read.ensures
 
 pub returns-in-Wrong : goal.returns-in-Wrong
 returns-in-Wrong c =
-    let sized = c in
-    let a = sized.args in
+    let a = c.args in
     let i = a.image.now in
     let o = named_owner a.timer in
-    sized_wrong a.page_size i sized.form_at.ensures (refused_reading SIZE) (λ f. read f o a.address i) c.in-Wrong.is
+    sized_wrong a.page_size i c.form_at.ensures (refused_reading SIZE) (λ f. read f o a.address i) c.in-Wrong.is
     (λ f w. read_wrong f i w o a.address) c.refused.ensures
 
 pub read-requires : goal.read-requires
 read-requires c =
-    let known = c in
-    let sized = c in
-    let a = sized.args in
-    sized_lawful a.page_size a.image.now sized.form_at.ensures known.in-Right.is
+    let a = c.args in
+    sized_lawful a.page_size a.image.now c.form_at.ensures c.in-Right.is

@@ -6,25 +6,19 @@ use Rattle.istrovell.proofs.istrovell_recover.Goals as goal
 
 pub returns-in-Right : goal.returns-in-Right
 returns-in-Right c =
-    let called = c in
-    let known = c in
-    let sized = c in
-    let a = sized.args in
+    let a = c.args in
     let i = a.image.now in
-    sized_right a.page_size i sized.form_at.ensures (refused_steps SIZE i) (λ f. recover f a.allowance i) known.in-Right.is
-    called.recover.ensures
+    sized_right a.page_size i c.form_at.ensures (refused_steps SIZE i) (λ f. recover f a.allowance i) c.in-Right.is
+    c.recover.ensures
 
 pub returns-in-Wrong : goal.returns-in-Wrong
 returns-in-Wrong c =
-    let sized = c in
-    let a = sized.args in
+    let a = c.args in
     let i = a.image.now in
-    sized_wrong a.page_size i sized.form_at.ensures (refused_steps SIZE i) (λ f. recover f a.allowance i) c.in-Wrong.is
+    sized_wrong a.page_size i c.form_at.ensures (refused_steps SIZE i) (λ f. recover f a.allowance i) c.in-Wrong.is
     (λ f w. recover_wrong f i w a.allowance) (let r = c.refused.ensures in rw (r.0, r.1, r.2))
 
 pub recover-requires : goal.recover-requires
 recover-requires c =
-    let known = c in
-    let sized = c in
-    let a = sized.args in
-    sized_lawful a.page_size a.image.now sized.form_at.ensures known.in-Right.is
+    let a = c.args in
+    sized_lawful a.page_size a.image.now c.form_at.ensures c.in-Right.is

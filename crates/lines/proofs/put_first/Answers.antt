@@ -21,6 +21,5 @@ put_broken-requires c =
 pub returns : goal.returns
 unfolding told_line
 returns c =
-    let ordered = c in
-    let pages = ordered.put_pages-behind_pages.ensures in
-    appends_then (appends_then pages ordered.put_order-behind_held.ensures) c.put_broken.ensures
+    let pages = c.put_pages-behind_pages.ensures in
+    appends_then (appends_then pages c.put_order-behind_held.ensures) c.put_broken.ensures

@@ -31,9 +31,8 @@ loop-i-smaller c = omega arith
 
 pub loop-i-preserved : goal.loop-i-preserved
 loop-i-preserved c =
-    let here = c in
-    let a = here.args in
-    let l = here.loop-i in
+    let a = c.args in
+    let l = c.loop-i in
     let below : l.i < a.held = omega arith in
     let few : a.held ≤ 192 = omega arith in
     let short = setting_line_length (setting (get_or a.addresses.now l.i 0) (get_or a.values.now l.i 0)) in (

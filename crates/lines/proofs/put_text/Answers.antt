@@ -27,9 +27,9 @@ pub loop-i-smaller : goal.loop-i-smaller
 loop-i-smaller c = omega arith
 
 pub loop-i-preserved : goal.loop-i-preserved
-loop-i-preserved c = let s = c in
+loop-i-preserved c =
     let l = c.loop-i in
-    (omega arith, appends_next s.args.text.now l.i c.loop-i-test.true l.invariant.1)
+    (omega arith, appends_next c.args.text.now l.i c.loop-i-test.true l.invariant.1)
 
 pub overflow_add-result : goal.overflow_add-result
 overflow_add-result c = omega arith

@@ -14,37 +14,27 @@ sound c = sym c.is_sound.ensures ∙ c.if-not-is_sound.false
 pub returns-then-not-is_sound : goal.returns-then-not-is_sound
 unfolding third
 returns-then-not-is_sound c =
-    let start = c in
-    itself_unsound start.args.page.now start.requires.0 (as_word start.args.wear) start.requires.1
+    itself_unsound c.args.page.now c.requires.0 (as_word c.args.wear) c.requires.1
     (sym c.is_sound.ensures ∙ c.if-not-is_sound.true)
 
 pub returns-then-is_opening : goal.returns-then-is_opening
 unfolding third
 returns-then-is_opening c =
-    let o = c in
     let t = sound (goal.at.returns-then-is_opening c).Else-not-is_sound in
-    let start = c in
-    itself_plain start.args.page.now start.requires.0 (as_word start.args.wear) start.requires.1 t o.word_at-opening.ensures
-    (sym o.is_opening.ensures ∙ c.if-is_opening.true)
+    itself_plain c.args.page.now c.requires.0 (as_word c.args.wear) c.requires.1 t c.word_at-opening.ensures
+    (sym c.is_opening.ensures ∙ c.if-is_opening.true)
 
 pub returns-then-is_opening-2 : goal.returns-then-is_opening-2
 unfolding third
 returns-then-is_opening-2 c =
-    let third = c in
-    let o₂ = c in
-    let o₁ = c in
-    let start = c in
     c.is_done.ensures
-    ∙ itself_done start.args.page.now start.requires.0 (as_word start.args.wear) start.requires.1 (sound (goal.at.returns-then-is_opening-2 c).Else-not-is_sound)
-    o₁.word_at-opening.ensures (sym o₁.is_opening.ensures ∙ o₂.if-is_opening.false) (sym o₂.is_opening-2.ensures ∙ third.if-is_opening-2.true) _
+    ∙ itself_done c.args.page.now c.requires.0 (as_word c.args.wear) c.requires.1 (sound (goal.at.returns-then-is_opening-2 c).Else-not-is_sound)
+    c.word_at-opening.ensures (sym c.is_opening.ensures ∙ c.if-is_opening.false) (sym c.is_opening-2.ensures ∙ c.if-is_opening-2.true) _
     c.order_in.ensures.value _
     c.word_at.ensures
 
 pub returns : goal.returns
 unfolding third
 returns c =
-    let o₂ = c in
-    let o₁ = c in
-    let start = c in
-    itself_unopened start.args.page.now start.requires.0 (as_word start.args.wear) start.requires.1 (sound (goal.at.returns c).Else-not-is_sound)
-    o₁.word_at-opening.ensures (sym o₁.is_opening.ensures ∙ o₂.if-is_opening.false) (sym o₂.is_opening-2.ensures ∙ c.if-is_opening-2.false)
+    itself_unopened c.args.page.now c.requires.0 (as_word c.args.wear) c.requires.1 (sound (goal.at.returns c).Else-not-is_sound)
+    c.word_at-opening.ensures (sym c.is_opening.ensures ∙ c.if-is_opening.false) (sym c.is_opening-2.ensures ∙ c.if-is_opening-2.false)

@@ -9,38 +9,26 @@ use Rattle.pages.proofs.own_edition.Goals as goal
 pub returns-then-wear-chip : goal.returns-then-wear-chip
 unfolding third
 returns-then-wear-chip c =
-    let w = c in
-    let start = c in
-    own_below (as_chip start.args.chip) start.args.page.now start.requires (as_word w.word_at-wear.result) w.word_at-wear.ensures (omega arith)
+    own_below (as_chip c.args.chip) c.args.page.now c.requires (as_word c.word_at-wear.result) c.word_at-wear.ensures (omega arith)
 
 pub returns-then-chip-wear : goal.returns-then-chip-wear
 unfolding third
 returns-then-chip-wear c =
-    let w = c in
-    let start = c in
-    own_above (as_chip start.args.chip) start.args.page.now start.requires (as_word w.word_at-wear.result) w.word_at-wear.ensures (omega arith)
+    own_above (as_chip c.args.chip) c.args.page.now c.requires (as_word c.word_at-wear.result) c.word_at-wear.ensures (omega arith)
     (omega arith)
 
 pub is_open_itself-requires : goal.is_open_itself-requires
 is_open_itself-requires c =
-    let w = c in
-    let start = c in
-    (start.requires, first_word (as_chip start.args.chip) start.args.page.now start.requires (as_word w.word_at-wear.result) w.word_at-wear.ensures)
+    (c.requires, first_word (as_chip c.args.chip) c.args.page.now c.requires (as_word c.word_at-wear.result) c.word_at-wear.ensures)
 
 pub returns-then-is_open_itself : goal.returns-then-is_open_itself
 unfolding third
 returns-then-is_open_itself c =
-    let o = c in
-    let w = c in
-    let start = c in
-    own_open (as_chip start.args.chip) start.args.page.now start.requires (as_word w.word_at-wear.result) w.word_at-wear.ensures (omega arith)
-    (omega arith) (sym o.is_open_itself.ensures ∙ c.if-is_open_itself.true)
+    own_open (as_chip c.args.chip) c.args.page.now c.requires (as_word c.word_at-wear.result) c.word_at-wear.ensures (omega arith)
+    (omega arith) (sym c.is_open_itself.ensures ∙ c.if-is_open_itself.true)
 
 pub returns : goal.returns
 unfolding third
 returns c =
-    let o = c in
-    let w = c in
-    let start = c in
-    own_closed (as_chip start.args.chip) start.args.page.now start.requires (as_word w.word_at-wear.result) w.word_at-wear.ensures (omega arith)
-    (omega arith) (sym o.is_open_itself.ensures ∙ c.if-is_open_itself.false)
+    own_closed (as_chip c.args.chip) c.args.page.now c.requires (as_word c.word_at-wear.result) c.word_at-wear.ensures (omega arith)
+    (omega arith) (sym c.is_open_itself.ensures ∙ c.if-is_open_itself.false)

@@ -9,16 +9,14 @@ pub returns-in-Value : goal.returns-in-Value
 unfolding is_held blank_value or_value
 returns-in-Value c =
     λ t held r l a h.
-    let found = c in
-    let e : some c.in-Value.value ≡ last_of found.args.address t =
-    ap as_option (sym c.in-Value.is) ∙ found.value_in.ensures t held r l a h in
+    let e : some c.in-Value.value ≡ last_of c.args.address t =
+    ap as_option (sym c.in-Value.is) ∙ c.value_in.ensures t held r l a h in
     rw (← e)
 
 pub returns-in-Nothing : goal.returns-in-Nothing
 unfolding is_held blank_value or_value
 returns-in-Nothing c =
     λ t held r l a h.
-    let found = c in
-    let e : none ≡ last_of found.args.address t =
-    ap as_option (sym c.in-Nothing.is) ∙ found.value_in.ensures t held r l a h in
+    let e : none ≡ last_of c.args.address t =
+    ap as_option (sym c.in-Nothing.is) ∙ c.value_in.ensures t held r l a h in
     rw (← e)

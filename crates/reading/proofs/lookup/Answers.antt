@@ -15,14 +15,11 @@ use Rattle.reading.proofs.lookup.Goals as goal
 use Rattle.reading.proofs.lookup.Goals.{After-open-store}
 
 module _ (c : After-open-store) where
-  abbrev entry : After-open-store
-  entry = c
-
   abbrev image : List ℕ
-  image = entry.args.image.now
+  image = c.args.image.now
 
   abbrev form : Form
-  form = as_form entry.args.form
+  form = as_form c.args.form
 
   opens : Opens form image c.open-store.result c.open-store.new.addresses c.open-store.new.values
   opens = c.open-store.ensures
@@ -32,17 +29,18 @@ open-store-requires c = record { lawful = c.requires; holds = holds_none }
 
 pub returns-then-number-ne-OK : goal.returns-then-number-ne-OK
 returns-then-number-ne-OK c =
-    let first = c in
-    let o = opens (goal.at.returns-then-number-ne-OK c).After-open-store in
-    c.refused_lookup.ensures ∙ ap refused_lookup o.number ∙ sym (lookup_refused (form (goal.at.returns-then-number-ne-OK c).After-open-store) (image (goal.at.returns-then-number-ne-OK c).After-open-store) (λ e. c.if-number-ne-OK.true (o.number ∙ e)))
+    let after_open_store = (goal.at.returns-then-number-ne-OK c).After-open-store in
+    let o = opens after_open_store in
+    c.refused_lookup.ensures ∙ ap refused_lookup o.number ∙ sym
+    (lookup_refused (form after_open_store) (image after_open_store) (λ e. c.if-number-ne-OK.true (o.number ∙ e)))
 
 pub returns : goal.returns
 returns c =
-    let right = c in
-    let i = image (goal.at.returns c).After-open-store in
-    let fm = form (goal.at.returns c).After-open-store in
-    let o = opens (goal.at.returns c).After-open-store in
-    let z = right.if-number-ne-OK.false in
+    let after_open_store = (goal.at.returns c).After-open-store in
+    let i = image after_open_store in
+    let fm = form after_open_store in
+    let o = opens after_open_store in
+    let z = c.if-number-ne-OK.false in
     c.pairing_of.ensures (settings (pages fm i)) _ (held_rising fm i) (table_few o z) (o.holding z).holds
     ∙ ap pairing (same_code (λ a. last_of a (settings (pages fm i))) (λ a. value a (pages fm i)) (λ a l m. value_is fm i a))
     ∙ sym (lookup_done fm i (store_ok o z))

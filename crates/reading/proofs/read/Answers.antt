@@ -35,7 +35,10 @@ module _ (c : After-open-store) where
 
 -- what was known before, where more is known
 abbrev opened_first : Else-number-ne-OK → After-open-store
-opened_first c = record { before = c.before.before; type_inv = record { values = c.type_inv.values; addresses = c.type_inv.addresses; image = c.type_inv.image } }
+opened_first c = record {
+  before = c.before.before;
+  type_inv = record { values = c.type_inv.values; addresses = c.type_inv.addresses; image = c.type_inv.image };
+}
 
 abbrev accepted : Else-address-eq-NO_ADDRESS → Else-number-ne-OK
 accepted c = record { before = c.before.before; type_inv = record { values = c.type_inv.values; addresses = c.type_inv.addresses; image = c.type_inv.image } }
@@ -62,7 +65,10 @@ module _ (c : After-owns) where
 -- what was found is the value that is held
 module _ (c : After-value_in) where
   abbrev after_owner : After-owns
-  after_owner = record { before = c.before.before.before.before.before; type_inv = record { values = c.open-store.array_long2; addresses = c.open-store.array_long; image = c.type_inv.image } }
+  after_owner = record {
+    before = c.before.before.before.before.before;
+    type_inv = record { values = c.open-store.array_long2; addresses = c.open-store.array_long; image = c.type_inv.image };
+  }
 
   abbrev after_tests : Else-address-eq-NO_ADDRESS
   after_tests = passed after_owner
@@ -81,34 +87,41 @@ open-store-requires c = record { lawful = c.requires; holds = holds_none }
 
 pub returns-then-number-ne-OK : goal.returns-then-number-ne-OK
 returns-then-number-ne-OK c =
-    let first = c in
-    let o = opens (goal.at.returns-then-number-ne-OK c).After-open-store in
+    let after_open_store = (goal.at.returns-then-number-ne-OK c).After-open-store in
+    let o = opens after_open_store in
     c.refused.ensures ∙ ap refused_reading o.number
-    ∙ sym (read_refused (form (goal.at.returns-then-number-ne-OK c).After-open-store) (image (goal.at.returns-then-number-ne-OK c).After-open-store) (owner (goal.at.returns-then-number-ne-OK c).After-open-store) (address (goal.at.returns-then-number-ne-OK c).After-open-store) (λ e. c.if-number-ne-OK.true (o.number ∙ e)))
+    ∙ sym (read_refused (form after_open_store) (image after_open_store) (owner after_open_store) (address after_open_store)
+    (λ e. c.if-number-ne-OK.true (o.number ∙ e)))
 
 pub returns-then-address-eq-NO_ADDRESS : goal.returns-then-address-eq-NO_ADDRESS
 returns-then-address-eq-NO_ADDRESS c =
-    let o = c in
-    c.refused-then-address-eq-NO_ADDRESS.ensures ∙ sym (read_last (form (goal.at.returns-then-address-eq-NO_ADDRESS c).After-open-store) (image (goal.at.returns-then-address-eq-NO_ADDRESS c).After-open-store) (owner (goal.at.returns-then-address-eq-NO_ADDRESS c).After-open-store) (address (goal.at.returns-then-address-eq-NO_ADDRESS c).After-open-store) (ok (goal.at.returns-then-address-eq-NO_ADDRESS c).Else-number-ne-OK) c.if-address-eq-NO_ADDRESS.true)
+    let after_open_store = (goal.at.returns-then-address-eq-NO_ADDRESS c).After-open-store in
+    let else_number_ne_ok = (goal.at.returns-then-address-eq-NO_ADDRESS c).Else-number-ne-OK in
+    c.refused-then-address-eq-NO_ADDRESS.ensures ∙ sym
+    (read_last (form after_open_store) (image after_open_store) (owner after_open_store) (address after_open_store) (ok else_number_ne_ok)
+    c.if-address-eq-NO_ADDRESS.true)
 
 pub returns-then-not-owns : goal.returns-then-not-owns
 returns-then-not-owns c =
-    let a = c in
-    let o = looked (goal.at.returns-then-not-owns c).After-owns in
+    let after_owns = (goal.at.returns-then-not-owns c).After-owns in
+    let o = looked after_owns in
     c.refused-then-not-owns.ensures
-    ∙ sym (read_foreign (form o) (image o) (owner o) (address o) (ok (accepted (passed (goal.at.returns-then-not-owns c).After-owns))) (below (passed (goal.at.returns-then-not-owns c).After-owns)) (asked (goal.at.returns-then-not-owns c).After-owns ∙ c.if-not-owns.true))
+    ∙ sym (read_foreign (form o) (image o) (owner o) (address o) (ok (accepted (passed after_owns))) (below (passed after_owns))
+    (asked after_owns ∙ c.if-not-owns.true))
 
 pub returns-in-Value : goal.returns-in-Value
 returns-in-Value c =
-    let f = c in
-    let o = opened (goal.at.returns-in-Value c).After-value_in in
-    sym (read_found (form o) (image o) (owner o) (address o) (ok (accepted (after_tests (goal.at.returns-in-Value c).After-value_in))) (below (after_tests (goal.at.returns-in-Value c).After-value_in)) (own (goal.at.returns-in-Value c).After-value_in) c.in-Value.value
-    (found (goal.at.returns-in-Value c).After-value_in ∙ ap as_option c.in-Value.is))
+    let after_value_in = (goal.at.returns-in-Value c).After-value_in in
+    let o = opened after_value_in in
+    sym (read_found (form o) (image o) (owner o) (address o) (ok (accepted (after_tests after_value_in))) (below (after_tests after_value_in))
+    (own after_value_in) c.in-Value.value
+    (found after_value_in ∙ ap as_option c.in-Value.is))
 
 pub returns-in-Nothing : goal.returns-in-Nothing
 returns-in-Nothing c =
-    let f = c in
-    let o = opened (goal.at.returns-in-Nothing c).After-value_in in
+    let after_value_in = (goal.at.returns-in-Nothing c).After-value_in in
+    let o = opened after_value_in in
     c.refused-in-Nothing.ensures
-    ∙ sym (read_nothing (form o) (image o) (owner o) (address o) (ok (accepted (after_tests (goal.at.returns-in-Nothing c).After-value_in))) (below (after_tests (goal.at.returns-in-Nothing c).After-value_in)) (own (goal.at.returns-in-Nothing c).After-value_in)
-    (found (goal.at.returns-in-Nothing c).After-value_in ∙ ap as_option c.in-Nothing.is))
+    ∙ sym (read_nothing (form o) (image o) (owner o) (address o) (ok (accepted (after_tests after_value_in))) (below (after_tests after_value_in))
+    (own after_value_in)
+    (found after_value_in ∙ ap as_option c.in-Nothing.is))

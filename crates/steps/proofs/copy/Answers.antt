@@ -160,7 +160,13 @@ program_records-requires c =
     let a = s.args in
     let most = few s a.held (omega arith) (map record_of (rs s)) (split s) in
     let at = done_is s l.i (omega arith) l.invariant.3 in record {
-      lawful = (s.requires.lawful.0, s.requires.lawful.1, omega (arith, l.invariant.2, l.invariant.0, s.requires.lawful.2), omega (arith, at, most, length-map (rs s) record_of));
+      lawful = (
+        s.requires.lawful.0,
+        s.requires.lawful.1,
+        omega (arith, l.invariant.2, l.invariant.0, s.requires.lawful.2),
+        omega
+            (arith, at, most, length-map (rs s) record_of),
+      );
       all_allowed = rw at
           (programmed_ready (z s) a.page 0 a.left (image s) (all_done s l.i (omega arith) l.invariant.4) (map record_of (rs s)) []
           (allowed s (ws s a.held ++ (map record_of (rs s) ++ []))

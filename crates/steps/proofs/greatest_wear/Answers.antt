@@ -31,8 +31,7 @@ loop-i-init c =
 
 pub wear_at-requires : goal.wear_at-requires
 wear_at-requires c =
-    let s = c in
     let l = c.loop-i in
-    let inside = page_within (size (as_form s.args.form)) s.args.n l.i (omega arith) in
-    let room = s.requires.2 in
-    (s.requires.0, omega arith, omega arith)
+    let inside = page_within (size (as_form c.args.form)) c.args.n l.i (omega arith) in
+    let room = c.requires.2 in
+    (c.requires.0, omega arith, omega arith)

@@ -45,12 +45,10 @@ overflow_add-slot-in-loop-k c = omega arith
 
 pub program_word-rest-requires : goal.program_word-rest-requires
 program_word-rest-requires c =
-    let r = c in
-    let l = r.loop-k in
-    let start = c in
-    let a = start.args in
+    let l = c.loop-k in
+    let a = c.args in
     let s = a.entries.now in
-    let pre = start.requires in
+    let pre = c.requires in
     let more : 3 * l.k + 3 ≤ length s = omega arith in
     let place : 3 + a.slot + l.k ≡ 3 + (a.slot + length (first_words s l.k)) = omega (arith, first_many s l.k l.invariant.0) in record {
       lawful = (pre.lawful.0, pre.lawful.1, omega (arith, length_triples s, pre.lawful.3));
@@ -69,14 +67,12 @@ loop-k-smaller c = omega arith
 
 pub loop-k-preserved : goal.loop-k-preserved
 loop-k-preserved c =
-    let w = c in
-    let r = c in
-    let l = r.loop-k in
-    let a = r.args in
+    let l = c.loop-k in
+    let a = c.args in
     let s = a.entries.now in
     let more : 3 * l.k + 3 ≤ length s = omega arith in
     let place : 3 + a.slot + l.k ≡ 3 + (a.slot + length (first_words s l.k)) = omega (arith, first_many s l.k l.invariant.0) in
-    let p = w.program_word-rest in (
+    let p = c.program_word-rest in (
       omega arith,
       omega (arith, p.ensures.value),
       rw (next_words s l.k more)

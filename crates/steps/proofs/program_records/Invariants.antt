@@ -9,7 +9,8 @@ use Rattle.steps.proofs.program_records.Given as goal
 
 abbrev pub invariant-loop-k : goal.invariant-loop-k
 invariant-loop-k l =
-    (3 * l.k ≤ length l.entries) × (l.rest ≤ l.left) × Programmed (size (as_form l.form)) l.page l.slot l.left l.initial.image (first_words l.entries l.k) l.image l.rest
+    (3 * l.k ≤ length l.entries) × (l.rest ≤ l.left) × Programmed (size (as_form l.form)) l.page l.slot l.left l.initial.image
+    (first_words l.entries l.k) l.image l.rest
 
 abbrev pub decreases-loop-k : goal.decreases-loop-k
 decreases-loop-k l = l.count - l.k

@@ -14,10 +14,9 @@ returns-then-left-eq0 c =
 
 pub program_at-requires : goal.program_at-requires
 program_at-requires c =
-    let s = c in
-    let a = s.args in
+    let a = c.args in
     first_allowed (size (as_form a.form)) a.page a.place c.start.result c.start.ensures.value
-    a.w.a a.w.b a.w.c a.w.d a.image.now a.left (search rules) s.requires.all_allowed
+    a.w.a a.w.b a.w.c a.w.d a.image.now a.left (search rules) c.requires.all_allowed
 
 pub returns-then-is_last : goal.returns-then-is_last
 returns-then-is_last c =
@@ -32,12 +31,11 @@ returns-then-is_last c =
 
 pub program_at-requires-2 : goal.program_at-requires-2
 program_at-requires-2 c =
-    let s = c in
-    let a = s.args in
+    let a = c.args in
     let o = c.start in
     let p = c.program_at in
     second_allowed (size (as_form a.form)) a.page a.place o.result o.ensures.value a.w.a a.w.b a.w.c a.w.d
-    a.image.now a.left p.new.image (search rules) (search rules) s.requires.all_allowed p.ensures
+    a.image.now a.left p.new.image (search rules) (search rules) c.requires.all_allowed p.ensures
 
 pub returns : goal.returns
 returns c =

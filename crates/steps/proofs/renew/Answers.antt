@@ -17,17 +17,16 @@ returns-then-left-eq0 c =
 
 pub program_word-requires : goal.program_word-requires
 program_word-requires c =
-    let s = c in
-    let a = s.args in
+    let a = c.args in
     let e = c.erase_at in
     let w = c.wear_word-w in
     let o = c.start in
     let n = c.size in
     let k = size (as_form a.form) in
     let erased = erased_page a.page k a.image.now o.result n.result o.ensures.value n.ensures e.ensures in record {
-      lawful = (s.requires.0, s.requires.1, omega arith);
+      lawful = (c.requires.0, c.requires.1, omega arith);
       all_allowed = renewing_allowed k a.form.edition a.page a.wear (omega arith) a.image.now e.new.image (as_word w.result) erased w.ensures
-          (a.left - 1) s.requires.2;
+          (a.left - 1) c.requires.2;
     }
 
 pub returns : goal.returns

@@ -15,12 +15,11 @@ loop-i-init c = (omega arith, refl, refl)
 
 pub renew-requires : goal.renew-requires
 renew-requires c =
-    let s = c in
     let l = c.loop-i in
-    let inside = page_within (size (as_form s.args.form)) s.args.n l.i (omega arith) in
-    let room = s.requires.2 in
+    let inside = page_within (size (as_form c.args.form)) c.args.n l.i (omega arith) in
+    let room = c.requires.2 in
     let same = l.invariant.1 in
-    (s.requires.0, omega arith, omega arith)
+    (c.requires.0, omega arith, omega arith)
 
 pub overflow_add-i : goal.overflow_add-i
 overflow_add-i c = omega arith

@@ -73,4 +73,8 @@ loop-i-preserved c =
 pub returns : goal.returns
 returns c = let both = let a = c.args in
     let l = c.loop-i in
-    passed_all (as_form a.form) a.n a.left a.picks a.image.now l.i l.image l.rest l.greatest l.invariant.2 (omega arith) in record { value = both.0; image_after = both.1 }
+    passed_all (as_form a.form) a.n a.left a.picks a.image.now l.i l.image l.rest l.greatest l.invariant.2 (omega arith) in
+    record {
+      value = both.0;
+      image_after = both.1;
+    }

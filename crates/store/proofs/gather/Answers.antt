@@ -30,14 +30,12 @@ bounds-line-k c = omega arith
 
 pub put_page-passed-requires : goal.put_page-passed-requires
 put_page-passed-requires c =
-    let joined = c in
-    let start = c in
-    let k = joined.loop-k.k in (
-      start.requires.lawful,
-      (let l = start.requires.passes.places k (omega arith) in omega arith),
-      slots_few start.requires.passes k joined.if-k-used.n (omega arith)
+    let k = c.loop-k.k in (
+      c.requires.lawful,
+      (let l = c.requires.passes.places k (omega arith) in omega arith),
+      slots_few c.requires.passes k c.if-k-used.n (omega arith)
           (passed (goal.at.put_page-passed-requires c).Joined-k-used),
-      start.requires.passes.within k (omega arith),
+      c.requires.passes.within k (omega arith),
     )
 
 pub overflow_add-k-in-loop-k : goal.overflow_add-k-in-loop-k
@@ -49,17 +47,16 @@ loop-k-smaller c = omega arith
 pub loop-k-preserved : goal.loop-k-preserved
 unfolding Ends
 loop-k-preserved c =
-    let joined = c in
-    let start = c in
-    let a = start.args in
-    let l = joined.loop-k in
-    let n = joined.if-k-used.n in
+    let joined_k_used = (goal.at.loop-k-preserved c).Joined-k-used in
+    let a = c.args in
+    let l = c.loop-k in
+    let n = c.if-k-used.n in
     let fm = as_form a.form in
     let image = a.image.now in
     let line = a.line.now in
-    let all = all_passed start.requires.passes l.k n (omega arith) (passed (goal.at.loop-k-preserved c).Joined-k-used) in
+    let all = all_passed c.requires.passes l.k n (omega arith) (passed joined_k_used) in
     let put = c.put_page-passed.ensures in
-    let ends = put.group_value ∙ all_ends start.requires.passes l.k n (omega arith) (passed (goal.at.loop-k-preserved c).Joined-k-used) in (
+    let ends = put.group_value ∙ all_ends c.requires.passes l.k n (omega arith) (passed joined_k_used) in (
       omega arith,
       gather_more fm image line l.k (omega arith) n all l.invariant.1 put.fact,
       λ j e.
@@ -74,4 +71,8 @@ returns c =
     let fm = as_form a.form in
     let image = a.image.now in
     let line = a.line.now in
-    let e : l.k ≡ a.used = omega arith in record { holds_2 = subst (λ (k : ℕ). Holds l.addresses l.values l.held (put_all [] (gathered fm image (take k line)))) e l.invariant.1; ends = subst (λ (k : ℕ). Ends fm image line k l.group) e l.invariant.2 }
+    let e : l.k ≡ a.used = omega arith in
+    record {
+      holds_2 = subst (λ (k : ℕ). Holds l.addresses l.values l.held (put_all [] (gathered fm image (take k line)))) e l.invariant.1;
+      ends = subst (λ (k : ℕ). Ends fm image line k l.group) e l.invariant.2;
+    }

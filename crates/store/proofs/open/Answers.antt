@@ -16,14 +16,11 @@ use Rattle.store.proofs.open.Goals.{After-number_of}
 
 -- of pages that are not refused, the table has the settings
 module _ (c : After-number_of) where
-  abbrev entry : After-number_of
-  entry = c
-
   abbrev image : List ℕ
-  image = entry.args.image.now
+  image = c.args.image.now
 
   abbrev form : Form
-  form = as_form entry.args.form
+  form = as_form c.args.form
 
   abbrev look : Look
   look = c.look_at-look.result
@@ -51,21 +48,22 @@ module _ (c : After-number_of) where
 
 pub gather-passed-requires : goal.gather-passed-requires
 gather-passed-requires c =
-    let looked = c in
-    record { lawful = looked.requires.lawful; passes = passes looked.look_at-look.ensures; holds = looked.requires.holds }
+    record { lawful = c.requires.lawful; passes = passes c.look_at-look.ensures; holds = c.requires.holds }
 
 pub returns : goal.returns
 returns c =
-    let n = c in
+    let after_number_of = (goal.at.returns c).After-number_of in
     record {
-      number = number (goal.at.returns c).After-number_of;
+      number = number after_number_of;
       holding = λ z.
-          let ok = pages_ok (form (goal.at.returns c).After-number_of) (image (goal.at.returns c).After-number_of) (look (goal.at.returns c).After-number_of).number (looks (goal.at.returns c).After-number_of).number (sym (number (goal.at.returns c).After-number_of) ∙ z) in
-          let told = (looks (goal.at.returns c).After-number_of).told ok in
+          let ok = pages_ok (form after_number_of) (image after_number_of) (look after_number_of).number (looks after_number_of).number
+          (sym (number after_number_of) ∙ z) in
+          let told = (looks after_number_of).told ok in
           record {
             told = told;
-            holds = holds (goal.at.returns c).After-number_of ok;
+            holds = holds after_number_of ok;
             grouped = c.is_open.ensures
-                ∙ group_told (form (goal.at.returns c).After-number_of) (image (goal.at.returns c).After-number_of) (look (goal.at.returns c).After-number_of) n.gather-passed.result.group (sym (looks (goal.at.returns c).After-number_of).number ∙ ok) told n.gather-passed.ensures.ends;
+                ∙ group_told (form after_number_of) (image after_number_of) (look after_number_of) c.gather-passed.result.group
+                (sym (looks after_number_of).number ∙ ok) told c.gather-passed.ensures.ends;
           };
     }

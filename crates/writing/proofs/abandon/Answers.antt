@@ -6,25 +6,23 @@ use Rattle.writing.proofs.Parts.{word_part, no_part, mark_part, mark_ready}
 use Rattle.writing.proofs.abandon.Goals as goal
 
 pub overflow_add-slot : goal.overflow_add-slot
-overflow_add-slot c = let s = c in let l = s.requires.lawful.2 c.if-group.true in omega (arith, s.requires.lawful.0.1)
+overflow_add-slot c =
+    let l = c.requires.lawful.2 c.if-group.true in omega (arith, c.requires.lawful.0.1)
 
 pub program_word-requires : goal.program_word-requires
 program_word-requires c =
-    let s = c in
     let taken = c.if-group.true in
-    let l = s.requires.lawful.2 taken in record {
-      lawful = (s.requires.lawful.0, s.requires.lawful.1, omega arith);
+    let l = c.requires.lawful.2 taken in record {
+      lawful = (c.requires.lawful.0, c.requires.lawful.1, omega arith);
       all_allowed = rw c.mark_word.ensures
-          (mark_ready (as_form s.args.form) s.args.page s.args.slot s.args.left (mark_word 0) s.args.image.now taken s.requires.all_allowed);
+          (mark_ready (as_form c.args.form) c.args.page c.args.slot c.args.left (mark_word 0) c.args.image.now taken c.requires.all_allowed);
     }
 
 pub returns-then-group : goal.returns-then-group
 returns-then-group c =
-    let p = c in
-    let s = c in
-    let a = s.args in
-    mark_part (as_form a.form) a.page a.slot a.left (mark_word 0) a.image.now p.if-group.true
-    (word_part (as_form a.form) a.page (3 + a.slot) p.mark_word.ensures p.program_word.ensures.value p.program_word.ensures.image_after)
+    let a = c.args in
+    mark_part (as_form a.form) a.page a.slot a.left (mark_word 0) a.image.now c.if-group.true
+    (word_part (as_form a.form) a.page (3 + a.slot) c.mark_word.ensures c.program_word.ensures.value c.program_word.ensures.image_after)
 
 pub returns : goal.returns
 returns c =

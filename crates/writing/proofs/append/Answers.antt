@@ -8,7 +8,4 @@ change_steps-requires c = entries_few c.requires.lawful.2
 
 pub returns : goal.returns
 returns c =
-    let counted = c in
-    let p = c in
-    let s = c in
-    does (append_long s.requires.lawful.2 s.args.page s.args.slot ∙ sym counted.change_steps.ensures.value) p.program_change.ensures c.done.ensures
+    does (append_long c.requires.lawful.2 c.args.page c.args.slot ∙ sym c.change_steps.ensures.value) c.program_change.ensures c.done.ensures

@@ -56,9 +56,7 @@ open-store-requires c = record { lawful = c.requires.0; holds = holds_none }
 
 pub choose-requires : goal.choose-requires
 choose-requires c =
-    let o = c in
-    let s = c in
-    record { opened = record { image = s.args.image.now; opens = o.open-store.ensures }; lent = s.requires.1 }
+    record { opened = record { image = c.args.image.now; opens = c.open-store.ensures }; lent = c.requires.1 }
 
 pub append-requires : goal.append-requires
 append-requires c =
@@ -82,7 +80,12 @@ move_to-requires c =
     let g = c.in-Move in
     let p = g.page in
     let o = g.order in
-    let f = move_fits (form w) (owner w) (marks w) (bytes w) (lent w) (allowance w) (image w) (roomy w) (chosen w) p o g.is (opens w) in record { lawful = ((entry w).requires.0, f.0, f.1, f.2, f.3, f.4, f.5); tabled = tabled (form w) (owner w) (marks w) (bytes w) (lent w) (allowance w) (image w) (roomy w) (chosen w) p o g.is (opens w); all_allowed = move_ready (form w) (owner w) (marks w) (bytes w) (lent w) (allowance w) (image w) (roomy w) (chosen w) p o g.is (opens w) }
+    let f = move_fits (form w) (owner w) (marks w) (bytes w) (lent w) (allowance w) (image w) (roomy w) (chosen w) p o g.is (opens w) in
+    record {
+      lawful = ((entry w).requires.0, f.0, f.1, f.2, f.3, f.4, f.5);
+      tabled = tabled (form w) (owner w) (marks w) (bytes w) (lent w) (allowance w) (image w) (roomy w) (chosen w) p o g.is (opens w);
+      all_allowed = move_ready (form w) (owner w) (marks w) (bytes w) (lent w) (allowance w) (image w) (roomy w) (chosen w) p o g.is (opens w);
+    }
 
 pub returns-in-Refuse : goal.returns-in-Refuse
 returns-in-Refuse c =
@@ -97,22 +100,19 @@ returns-in-Stay c =
 
 pub returns-in-Append : goal.returns-in-Append
 returns-in-Append c =
-    let done = c in
     let w = (goal.at.returns-in-Append c).After-choose in
     let g = c.in-Append in
-    appended (form w) (owner w) (written w) (allowance w) (image w) (roomy w) (chosen w) g.page g.slot g.is done.append.ensures
+    appended (form w) (owner w) (written w) (allowance w) (image w) (roomy w) (chosen w) g.page g.slot g.is c.append.ensures
 
 pub returns-in-Open : goal.returns-in-Open
 returns-in-Open c =
-    let done = c in
     let w = (goal.at.returns-in-Open c).After-choose in
     let g = c.in-Open in
-    opened (form w) (owner w) (written w) (allowance w) (image w) (roomy w) (chosen w) g.page g.order g.is done.open_page.ensures
+    opened (form w) (owner w) (written w) (allowance w) (image w) (roomy w) (chosen w) g.page g.order g.is c.open_page.ensures
 
 pub returns-in-Move : goal.returns-in-Move
 returns-in-Move c =
-    let done = c in
     let w = (goal.at.returns-in-Move c).After-choose in
     let g = c.in-Move in
     moved_all (form w) (owner w) (marks w) (bytes w) (lent w) (allowance w) (image w) (roomy w) (chosen w) g.page g.order g.is (opens w)
-    done.move_to.ensures
+    c.move_to.ensures

@@ -59,20 +59,25 @@ copy-rest-requires c =
     let p = (goal.at.copy-rest-requires c).After-program_word-opened in
     let s = start p in
     let ready = part_first (size (form s)) s.args.left (opening s ++ copying s) (ending s) s.args.image.now s.requires.all_allowed in
-    record { lawful = (s.requires.lawful.0, s.requires.lawful.1, s.requires.lawful.3, s.requires.lawful.4); all_allowed = part_next (opened p) (copying s) ready }
+    record {
+      lawful = (s.requires.lawful.0, s.requires.lawful.1, s.requires.lawful.3, s.requires.lawful.4);
+      all_allowed = part_next (opened p) (copying s) ready;
+    }
 
 pub program_word-requires : goal.program_word-requires
 unfolding fill_steps
 program_word-requires c =
     let q = (goal.at.program_word-requires c).After-copy-rest in
     let s = start (first q) in
-    record { lawful = (s.requires.lawful.0, s.requires.lawful.1, omega (arith, s.requires.lawful.0.0)); all_allowed = rw c.done_word.ensures (part_next (filled q) (ending s) s.requires.all_allowed) }
+    record {
+      lawful = (s.requires.lawful.0, s.requires.lawful.1, omega (arith, s.requires.lawful.0.0));
+      all_allowed = rw c.done_word.ensures (part_next (filled q) (ending s) s.requires.all_allowed);
+    }
 
 pub returns : goal.returns
 unfolding fill_steps
 returns c =
-    let d = c in
     let q = (goal.at.returns c).After-copy-rest in
     part_then (filled q)
-    (word_part (form (start (first q))) (start (first q)).args.page 2 d.done_word.ensures d.program_word.ensures.value
-    d.program_word.ensures.image_after)
+    (word_part (form (start (first q))) (start (first q)).args.page 2 c.done_word.ensures c.program_word.ensures.value
+    c.program_word.ensures.image_after)

@@ -17,13 +17,12 @@ returns-then-n-eq0 c = let both = let a = c.args in
 
 pub program_word-requires : goal.program_word-requires
 program_word-requires c =
-    let start = c in
-    let i = start.args.image.now in
-    let fm = as_form start.args.form in
+    let i = c.args.image.now in
+    let fm = as_form c.args.form in
     let n = c.page_count-n in
     let w = counted_some fm i n.ensures (search rules) in
     let r = c.renew_all in record {
-      lawful = (start.requires, omega arith, omega arith);
+      lawful = (c.requires, omega arith, omega arith);
       all_allowed = opening_ready fm i r.new.image n.result (as_word c.opening_word.result) w.0 w.1
           r.ensures c.opening_word.ensures;
     }
@@ -37,4 +36,8 @@ returns c = let both = let start = c in
     let r = c.renew_all in
     let o = c.opening_word in
     let p = c.program_word in
-    formatted fm i r.new.image n.result (as_word o.result) w.0 w.1 r.ensures o.ensures p.new.image p.ensures.image_after in record { value = both.0; image_after = both.1 }
+    formatted fm i r.new.image n.result (as_word o.result) w.0 w.1 r.ensures o.ensures p.new.image p.ensures.image_after in
+    record {
+      value = both.0;
+      image_after = both.1;
+    }

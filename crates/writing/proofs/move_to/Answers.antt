@@ -15,25 +15,19 @@ copying c = let a = c.args in copied a.addresses.now a.values.now a.held (triple
 
 pub fill-left-requires : goal.fill-left-requires
 fill-left-requires c =
-    let s = c in
-    let p = s.requires.lawful in
-    record { lawful = (p.0, omega (arith, p.1, p.2), p.4, p.5, omega (arith, copies_few s.requires.tabled, p.0.0)); all_allowed = s.requires.all_allowed }
+    let p = c.requires.lawful in
+    record { lawful = (p.0, omega (arith, p.1, p.2), p.4, p.5, omega (arith, copies_few c.requires.tabled, p.0.0)); all_allowed = c.requires.all_allowed }
 
 pub returns : goal.returns
 returns c =
-    let renewed = c in
-    let picks = c in
-    let filled = c in
-    let copies = c in
-    let start = c in
-    let a = start.args in
-    let table = start.requires.tabled in
+    let a = c.args in
+    let table = c.requires.tabled in
     let fm = as_form a.form in
-    let inside = start.requires.lawful.1 in
-    let n = copies.copy_count-copies in
-    let r = renewed.renew_picked in
+    let inside = c.requires.lawful.1 in
+    let n = c.copy_count-copies in
+    let r = c.renew_picked in
     does (move_total table fm a.page a.order a.n n.result a.image.now inside n.ensures.value)
-    (moved fm a.page a.order a.n (copying (goal.at.returns c).Start) picks.others-picks.result inside start.requires.lawful.3
-    (omega (arith, copies_few table, start.requires.lawful.0.0))
-    filled.fill-left.ensures picks.others-picks.ensures (record { image = r.ensures.image_after; left = r.ensures.value }))
+    (moved fm a.page a.order a.n (copying (goal.at.returns c).Start) c.others-picks.result inside c.requires.lawful.3
+    (omega (arith, copies_few table, c.requires.lawful.0.0))
+    c.fill-left.ensures c.others-picks.ensures (record { image = r.ensures.image_after; left = r.ensures.value }))
     c.done.ensures

@@ -52,9 +52,13 @@ program_word-left-requires c =
 pub program_change-requires : goal.program_change-requires
 unfolding open_steps append_steps
 program_change-requires c =
-    let s = start (goal.at.program_change-requires c).After-program_word-left in
+    let after_program_word_left = (goal.at.program_change-requires c).After-program_word-left in
+    let s = start after_program_word_left in
     let w = words_few s.requires.lawful.3 in
-    record { lawful = (s.requires.lawful.0, s.requires.lawful.1, s.requires.lawful.3, omega (arith, s.requires.lawful.0.0)); all_allowed = part_next (opened (goal.at.program_change-requires c).After-program_word-left) (changing s) s.requires.all_allowed }
+    record {
+      lawful = (s.requires.lawful.0, s.requires.lawful.1, s.requires.lawful.3, omega (arith, s.requires.lawful.0.0));
+      all_allowed = part_next (opened after_program_word_left) (changing s) s.requires.all_allowed;
+    }
 
 pub change_steps-requires : goal.change_steps-requires
 change_steps-requires c = entries_few c.requires.lawful.3
@@ -65,8 +69,7 @@ overflow_add-change_steps c = omega (arith, c.change_steps.ensures.upper_bound)
 pub returns : goal.returns
 unfolding open_steps append_steps
 returns c =
-    let counted = c in
-    let q = c in
-    let s = start (goal.at.returns c).After-program_word-left in
+    let after_program_word_left = (goal.at.returns c).After-program_word-left in
+    let s = start after_program_word_left in
     let l = append_long s.requires.lawful.3 s.args.page 0 in
-    does (omega (arith, long s, counted.change_steps.ensures.value)) (part_then (opened (goal.at.returns c).After-program_word-left) q.program_change.ensures) c.done.ensures
+    does (omega (arith, long s, c.change_steps.ensures.value)) (part_then (opened after_program_word_left) c.program_change.ensures) c.done.ensures

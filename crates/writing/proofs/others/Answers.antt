@@ -11,11 +11,9 @@ loop-i-init c = (omega arith, picked_none (other c.args.kept))
 pub loop-i-preserved : goal.loop-i-preserved
 unfolding other
 loop-i-preserved c =
-    let here = c in
-    (omega arith, picked_store (other here.args.kept) _ (omega arith) here.loop-i.invariant.1 (refl))
+    (omega arith, picked_store (other c.args.kept) _ (omega arith) c.loop-i.invariant.1 (refl))
 
 pub returns : goal.returns
 returns c =
-    let here = c in
-    let e : here.loop-i.i ≡ here.args.n = omega arith in
-    here.loop-i.invariant.1 ∙ ap (picked (other here.args.kept)) e
+    let e : c.loop-i.i ≡ c.args.n = omega arith in
+    c.loop-i.invariant.1 ∙ ap (picked (other c.args.kept)) e

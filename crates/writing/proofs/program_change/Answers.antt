@@ -6,35 +6,35 @@ use Rattle.writing.proofs.program_change.Goals as goal
 pub program_group-requires : goal.program_group-requires
 unfolding append_steps
 program_group-requires c =
-    let s = c in
-    let r = s.requires.lawful.2 in
+    let r = c.requires.lawful.2 in
     let q = c.if-marks.true in
     let n = group_many r q in
-    let l = s.requires.lawful.3 in
-    record { lawful = (s.requires.lawful.0, s.requires.lawful.1, omega (arith, s.requires.lawful.0.1), omega arith, group_few r); all_allowed = rw (← group_words r q) s.requires.all_allowed }
+    let l = c.requires.lawful.3 in
+    record {
+      lawful = (c.requires.lawful.0, c.requires.lawful.1, omega (arith, c.requires.lawful.0.1), omega arith, group_few r);
+      all_allowed = rw (← group_words r q) c.requires.all_allowed;
+    }
 
 pub returns-then-marks : goal.returns-then-marks
 unfolding append_steps
 returns-then-marks c =
-    let p = c in
-    let s = c in
-    let w = group_words s.requires.lawful.2 p.if-marks.true in
-    rw w (record { image = p.program_group.ensures.image_after; left = p.program_group.ensures.value })
+    let w = group_words c.requires.lawful.2 c.if-marks.true in
+    rw w (record { image = c.program_group.ensures.image_after; left = c.program_group.ensures.value })
 
 pub program_records-requires : goal.program_records-requires
 unfolding append_steps
 program_records-requires c =
-    let s = c in
-    let r = s.requires.lawful.2 in
+    let r = c.requires.lawful.2 in
     let q = c.if-marks.false in
     let n = single_many r q in
-    let l = s.requires.lawful.3 in
-    record { lawful = (s.requires.lawful.0, s.requires.lawful.1, omega (arith, s.requires.lawful.0.1), omega arith); all_allowed = rw (← single_words r q) s.requires.all_allowed }
+    let l = c.requires.lawful.3 in
+    record {
+      lawful = (c.requires.lawful.0, c.requires.lawful.1, omega (arith, c.requires.lawful.0.1), omega arith);
+      all_allowed = rw (← single_words r q) c.requires.all_allowed;
+    }
 
 pub returns : goal.returns
 unfolding append_steps
 returns c =
-    let p = c in
-    let s = c in
-    let w = single_words s.requires.lawful.2 p.if-marks.false in
-    rw w (record { image = p.program_records.ensures.image_after; left = p.program_records.ensures.value })
+    let w = single_words c.requires.lawful.2 c.if-marks.false in
+    rw w (record { image = c.program_records.ensures.image_after; left = c.program_records.ensures.value })

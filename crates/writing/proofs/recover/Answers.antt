@@ -83,13 +83,13 @@ pub overflow_sub-renewed-2 : goal.overflow_sub-renewed-2
 overflow_sub-renewed-2 c = omega (arith, counted (told (goal.at.overflow_sub-renewed-2 c).Else-is_refused))
 
 pub unclean-picks-requires : goal.unclean-picks-requires
-unclean-picks-requires c = let right = c in look_few (told (goal.at.unclean-picks-requires c).Else-is_refused) (ok (goal.at.unclean-picks-requires c).Else-is_refused)
+unclean-picks-requires c =
+    let else_is_refused = (goal.at.unclean-picks-requires c).Else-is_refused in
+    look_few (told else_is_refused) (ok else_is_refused)
 
 -- it stands first, so that a recovery without its mark is refused for its image
 pub returns : goal.returns
 returns c =
-    let renewed = c in
-    let marked = c in
     let u = (goal.at.returns c).After-unclean-picks in
     let all = states (pages (fm u) (i u)) in
     let t = told (right u) in
@@ -98,14 +98,18 @@ returns c =
     let d = c.done.ensures in
     rw (d.0, d.1, d.2)
     (sym (recovered t (ok (right u)) (picks u) u.unclean-picks.ensures (group u) (grouped u) c.recovery_steps.result
-    (n ∙ ap (λ (m : ℕ). cond (group u) 2 0 + m) unclean_many) marked.abandon-rest.ensures renewed.renew_picked.ensures.image_after))
+    (n ∙ ap (λ (m : ℕ). cond (group u) 2 0 + m) unclean_many) c.abandon-rest.ensures c.renew_picked.ensures.image_after))
 
 pub abandon-rest-requires : goal.abandon-rest-requires
 abandon-rest-requires c =
     let u = (goal.at.abandon-rest-requires c).After-unclean-picks in
     let e = entry (right u).before in
     let t = told (right u) in
-    let o = ok (right u) in record { lawful = (e.requires, active_32 t o, mark_slot t o (picks u) u.unclean-picks.ensures (group u) (grouped u)); all_allowed = mark_ready t o (picks u) u.unclean-picks.ensures (group u) (grouped u) e.requires.0 e.args.allowance }
+    let o = ok (right u) in
+    record {
+      lawful = (e.requires, active_32 t o, mark_slot t o (picks u) u.unclean-picks.ensures (group u) (grouped u));
+      all_allowed = mark_ready t o (picks u) u.unclean-picks.ensures (group u) (grouped u) e.requires.0 e.args.allowance;
+    }
 
 pub renew_picked-requires : goal.renew_picked-requires
 renew_picked-requires c =

@@ -9,15 +9,13 @@ loop-i-init c = (omega arith, picked_none (neither_at c.args.ranks.now c.args.sp
 
 pub loop-i-preserved : goal.loop-i-preserved
 unfolding neither_at
-loop-i-preserved c =
-    let here = c in (
-      omega arith,
-      picked_store (neither_at here.args.ranks.now here.args.spares.now) _ (omega arith) here.loop-i.invariant.1
-          c.is_neither.ensures,
-    )
+loop-i-preserved c = (
+  omega arith,
+  picked_store (neither_at c.args.ranks.now c.args.spares.now) _ (omega arith) c.loop-i.invariant.1
+      c.is_neither.ensures,
+)
 
 pub returns : goal.returns
 returns c =
-    let here = c in
-    let e : here.loop-i.i ≡ here.args.n = omega arith in
-    here.loop-i.invariant.1 ∙ ap (picked (neither_at here.args.ranks.now here.args.spares.now)) e
+    let e : c.loop-i.i ≡ c.args.n = omega arith in
+    c.loop-i.invariant.1 ∙ ap (picked (neither_at c.args.ranks.now c.args.spares.now)) e

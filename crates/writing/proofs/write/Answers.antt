@@ -14,12 +14,12 @@ whole a = omega arith
 
 pub change-requires : goal.change-requires
 unfolding Lent
-change-requires c = let s = c in (s.requires, λ q. refl)
+change-requires c =
+    (c.requires, λ q. refl)
 
 pub returns : goal.returns
 unfolding change_of
 returns c =
-    let d = c in
-    let a = d.args in
+    let a = c.args in
     let o = named_owner a.timer in
-    d.change.ensures ∙ ap (λ (x : ℕ). write (as_form a.form) o (single x a.value) a.allowance a.image.now) (whole a.address)
+    c.change.ensures ∙ ap (λ (x : ℕ). write (as_form a.form) o (single x a.value) a.allowance a.image.now) (whole a.address)

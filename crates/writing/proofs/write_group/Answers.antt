@@ -3,7 +3,8 @@ use Rattle.writing.proofs.Ways.{with_marks}
 use Rattle.writing.proofs.write_group.Goals as goal
 
 pub change-requires : goal.change-requires
-change-requires c = let s = c in (s.requires, with_marks s.args.entries.now)
+change-requires c =
+    (c.requires, with_marks c.args.entries.now)
 
 pub returns : goal.returns
 unfolding change_of
