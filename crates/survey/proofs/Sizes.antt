@@ -2,7 +2,7 @@
 use Prim.Native.Nat.{ℕ, ◌/◌, ◌%◌, ◌≤◌, ◌<◌}
 use mathlib.Core.Path.{◌≡◌, refl, sym, ap, ◌∙◌, subst}
 use mathlib.Core.Logic.{inl, inr}
-use mathlib.Core.Bool.{true, false}
+use mathlib.Core.Bool.{Bool, true, false}
 use mathlib.Core.List.{List}
 use mathlib.Core.Option.{some, some-injective}
 use native.Mathlib.Omega.{arith}
@@ -63,21 +63,16 @@ module _ (fm : Form) (i : List ℕ) where
   counted_some {r} k ne = by_cases (wrong_size fm i) (λ w. absurd (ne (k.count ∙ rw w))) (λ w. (w, k.count ∙ rw w))
 
 -- a size is wrong or right whatever the edition
-pub wrong_in_all : (chip : Chip) (e : ℕ) (f : Form) (i : List ℕ) → f ≡ in_edition chip e → wrong_size f i ≡ true
-    → (edition : ℕ) → wrong_size (in_edition chip edition) i ≡ true
+pub wrong_in_all : (chip : Chip) (e : ℕ) (f : Form) (i : List ℕ) {b : Bool} → f ≡ in_edition chip e → wrong_size f i ≡ b
+    → (edition : ℕ) → wrong_size (in_edition chip edition) i ≡ b
 unfolding wrong_size page_count
-wrong_in_all chip e f i is w edition = rw is at w
-
-pub right_in_all : (chip : Chip) (e : ℕ) (f : Form) (i : List ℕ) → f ≡ in_edition chip e → wrong_size f i ≡ false
-    → (edition : ℕ) → wrong_size (in_edition chip edition) i ≡ false
-unfolding wrong_size page_count
-right_in_all chip e f i is w edition = rw is at w
+wrong_in_all chip e f i {b} is w edition = rw is at w
 
 -- the form by which an image is read is that of a right size, if any on the chip is
 pub form_right : (chip : Chip) (e : ℕ) (f g : Form) (i : List ℕ) → f ≡ in_edition chip e → wrong_size f i ≡ false → g ≡ form_of chip i
     → wrong_size g i ≡ false
 unfolding form_of
-form_right chip e f g i is w by = rw by (right_in_all chip e f i is w _)
+form_right chip e f g i is w by = rw by (wrong_in_all chip e f i is w _)
 
 -- what is read on the chip of a page size is read at that size
 pub on_its_chip : (n : ℕ) (i : List ℕ) (chip : Chip) → chip_of n ≡ some chip → (r : Sized) → SizedOn chip i r → SizedAt n i r
