@@ -1,24 +1,25 @@
 -- What is counted of one slot more, and of one page more. Assumes nothing.
 use Prim.Native.Nat.{ℕ, ◌+◌, ◌*◌, ◌≤◌, ◌<◌}
-use mathlib.Core.Path.{◌≡◌, ap, ◌∙◌}
+use mathlib.Core.Path.{◌≡◌, refl, ap, ◌∙◌}
 use mathlib.Core.List.{List, [], ◌∷◌, ◌++◌, map}
 use native.Mathlib.Omega.{arith}
+use mir.Val.{bool_byte}
 use lib.ListN.{length, get_or, take, length-map}
-use Rattle.rules.specs.Word.{Word, words, Condition, opens, slot}
+use lib.Seq.{take_all}
+use Rattle.rules.specs.Word.{words, Condition, slot, opens}
 use Rattle.rules.specs.Page.{Form, size, page}
-use Rattle.rules.specs.Store.{each, count, Place, outside, inside, lost}
+use Rattle.rules.specs.Store.{each, count, Place, outside, inside, lost, in_group}
 use Rattle.rules.specs.Call.{pages, page_in}
 use Rattle.rules.specs.Listing.{is_half, is_spoiled, condition_at, conditions, conditions_in, used_conditions}
 use Rattle.rules.proofs.Stores.{count_append}
 use Rattle.rules.proofs.Broken.{used_counted, broken_few, conditions_append, conditions_many}
 use Rattle.words.specs.Read.{word_in}
-use Rattle.groups.specs.declared.Place.{Place as Numbers}
-use Rattle.groups.specs.Stands.{Stands}
 use Rattle.groups.proofs.Standing.{place_at, next_slots}
 use Rattle.survey.specs.States.{slots_in}
-use Rattle.survey.specs.Look.{Lines}
+use Rattle.survey.specs.declared.Look.{Look}
+use Rattle.survey.specs.Look.{pages_number, Lines, Told}
 use Rattle.survey.proofs.Slots.{slots_many}
-use Rattle.survey.proofs.Looking.{line_next, line_pages}
+use Rattle.survey.proofs.Looking.{line_next, line_pages, told_few, line_places, line_within}
 use Rattle.broken.specs.declared.Broken.{Broken}
 use Rattle.broken.specs.Counts.{Counts}
 
@@ -36,6 +37,15 @@ counts_more {xs} {ys} p q e =
 pub counts_few : {cs : List Condition} {r : Broken} → Counts cs r → r.half + r.spoiled ≤ length cs
 counts_few {cs} p = omega (arith, p.half, p.spoiled, broken_few cs)
 
+-- ---- a slot
+
+-- a mark that opens a group is spoiled in one
+pub opening : (at : Place) (n : ℕ) → Counts (condition_at at (opens n) ∷ []) (record { half = 0; spoiled = bool_byte (in_group at) })
+unfolding condition_at in_group count is_half is_spoiled
+opening outside n = record { half = refl; spoiled = refl }
+opening (inside m rs) n = record { half = refl; spoiled = refl }
+opening lost n = record { half = refl; spoiled = refl }
+
 -- ---- the slots of a page
 
 module _ (e : ℕ) (s : List ℕ) where
@@ -50,14 +60,6 @@ module _ (e : ℕ) (s : List ℕ) where
       ap (conditions outside) (next_slots e s k l)
       ∙ conditions_append outside (map (slot e) (take k (words s))) (slot e (word_in s (4 * k)) ∷ [])
 
--- an opening, by the number of the group that it stands in
-pub counts_opening : (at : Place) (xs : List Word) (p : Numbers) → Stands at xs p → (n : ℕ) (r : Broken)
-    → (r.half ≡ 0) × (p.number ≡ 0 → r.spoiled ≡ 0) × ((p.number ≡ 0 → ⊥) → r.spoiled ≡ 1) → Counts (condition_at at (opens n) ∷ []) r
-unfolding condition_at count is_half is_spoiled Stands
-counts_opening outside xs p h n r z = record { half = z.0; spoiled = z.1 h.0 }
-counts_opening (inside m rs) xs p h n r z = record { half = z.0; spoiled = z.2 (λ e. omega (arith, h.0, h.2)) }
-counts_opening lost xs p h n r z = record { half = z.0; spoiled = z.2 (λ e. omega (arith, h.0)) }
-
 -- ---- the pages of the line
 
 module _ (fm : Form) (i line : List ℕ) where
@@ -71,16 +73,38 @@ module _ (fm : Form) (i line : List ℕ) where
   next_page k l = line_next fm i conditions_in line k l
 
   -- all of them are the used pages
-  pub line_counts : {n : ℕ} {r : Broken} → Lines fm i n line → Counts (first_conditions n) r → Counts (used_conditions (pages fm i)) r
+  pub line_counts : {r : Broken} → Lines fm i line → Counts (first_conditions (length line)) r → Counts (used_conditions (pages fm i)) r
   line_counts h p =
-      let e = ap (each conditions_in) (line_pages fm i h) in
+      let all : first_conditions (length line) ≡ each conditions_in (map (λ (p : ℕ). page_in fm p i) line) =
+      ap (λ ks. each conditions_in (map (λ (p : ℕ). page_in fm p i) ks)) (take_all (length line) line (omega arith)) in
+      let e = all ∙ ap (each conditions_in) (line_pages fm i h) in
       record {
         half = p.half ∙ ap (count is_half) e ∙ used_counted is_half (pages fm i);
         spoiled = p.spoiled ∙ ap (count is_spoiled) e ∙ used_counted is_spoiled (pages fm i);
       }
 
-pub page_few : (fm : Form) (k : ℕ) (i : List ℕ) {r : Broken} → k * size fm + size fm ≤ length i
-    → Counts (conditions outside (map (slot fm.edition) (slots_in fm k i))) r → r.half + r.spoiled ≤ fm.slot_count
-page_few fm k i l p =
-    let ss = map (slot fm.edition) (slots_in fm k i) in
-    omega (arith, counts_few p, conditions_many outside ss, length-map (slots_in fm k i) (slot fm.edition), slots_many fm k i l)
+-- at a place of the line, as the code reads it
+module _ {fm : Form} {i : List ℕ} {look : Look} (ok : pages_number fm i ≡ 0) (t : Told fm i look) where
+  abbrev line : List ℕ
+  line = look.line.items
+
+  module _ {xs : List ℕ} (same : xs ≡ line) (k : ℕ) (l : k < length xs) where
+    pub page_inside : (get_or xs k 0 ≤ 32) × (get_or xs k 0 * size fm + size fm ≤ length i)
+    page_inside =
+        let m : k < length line = omega (arith, ap length same) in
+        rw same (omega (arith, line_places ok t k m), line_within ok t k m)
+
+    module _ {r : Broken} (p : Counts (conditions outside (map (slot fm.edition) (slots_in fm (get_or xs k 0) i))) r) where
+      pub page_few : (k < 32) × (r.half + r.spoiled ≤ fm.slot_count)
+      page_few =
+          let ss = slots_in fm (get_or xs k 0) i in
+          let many = conditions_many outside (map (slot fm.edition) ss) in (
+            omega (arith, ap length same, (told_few ok t).1),
+            omega (arith, counts_few p, many, length-map ss (slot fm.edition), slots_many fm (get_or xs k 0) i page_inside.1),
+          )
+
+      pub page_more : {a b : Broken} → Counts (first_conditions fm i line k) a → (b.half ≡ a.half + r.half) × (b.spoiled ≡ a.spoiled + r.spoiled)
+          → Counts (first_conditions fm i line (k + 1)) b
+      page_more before sum =
+          let m : k < length line = omega (arith, ap length same) in
+          rw (next_page fm i line k m, ← ap (λ ks. get_or ks k 0) same) (counts_more before p sum)

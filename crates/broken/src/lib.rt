@@ -10,60 +10,47 @@ ghost use Rattle.rules.specs.Call.{pages};
 ghost use Rattle.rules.specs.Listing.{condition_at, conditions, used_conditions};
 ghost use Rattle.words.specs.Read.{as_slot};
 ghost use Rattle.groups.specs.Stands.{Stands};
-ghost use Rattle.pages.specs.Read.{as_form, Lawful};
+ghost use Rattle.pages.specs.Read.{as_form};
 ghost use Rattle.survey.specs.States.{slots_in};
 ghost use Rattle.survey.specs.Look.{pages_number, Told};
 ghost use Rattle.broken.specs.Counts.{Counts};
 
-use groups::{NONE, Place};
+use groups::Place;
 use pages::Form;
+use std::ops::AddAssign;
 use survey::Look;
 use words::Slot;
 
-#[derive(Clone, Copy)]
+#[derive(Clone, Copy, Default)]
 pub struct Broken {
     pub half: usize,
     pub spoiled: usize,
 }
 
-impl Broken {
-    fn of(half: usize, spoiled: usize) -> Broken
-        ensures { (result.half ≡ half) × (result.spoiled ≡ spoiled) }
-    {
-        Broken { half, spoiled }
-    }
+impl AddAssign for Broken {
+    ghost can_add_assign = { λ a b. (a.half + b.half ≤ 65535) × (a.spoiled + b.spoiled ≤ 65535) };
 
-    // Both together.
-    fn and(self, other: Broken) -> Broken
-        requires { (self.half + other.half ≤ 65535) × (self.spoiled + other.spoiled ≤ 65535) }
-        ensures { (result.half ≡ self.half + other.half) × (result.spoiled ≡ self.spoiled + other.spoiled) }
-    {
-        Broken::of(self.half + other.half, self.spoiled + other.spoiled)
+    ghost add_assign_gives = { λ a b r. (r.half ≡ a.half + b.half) × (r.spoiled ≡ a.spoiled + b.spoiled) };
+
+    fn add_assign(&mut self, other: Broken) {
+        self.half += other.half;
+        self.spoiled += other.spoiled;
     }
 }
 
-// What an opening counts for where it stands: inside a group it is spoiled.
-fn of_opening(place: Place) -> Broken
-    ensures { (result.half ≡ 0) × (place.number ≡ 0 → result.spoiled ≡ 0) × ((place.number ≡ 0 → ⊥) → result.spoiled ≡ 1) }
-{
-    if place.number == NONE {
-        return Broken::of(0, 0);
-    }
-    Broken::of(0, 1)
-}
-
-// What a slot of that kind counts for where it stands.
+// What a slot of that kind counts for where it stands: a mark that opens a group inside another one is spoiled.
+#[tactic(auto, unfolding(rules::specs::Listing::condition_at, rules::specs::Store::count, rules::specs::Listing::is_half, rules::specs::Listing::is_spoiled))]
 fn of_slot(s: Slot, place: Place) -> Broken
     ensures { (at : Standing) (xs : List Bytes) (w : Bytes) → Stands at xs place → Counts (condition_at at (as_slot w s) ∷ []) result }
 {
-    match s {
-        Slot::Record => Broken::of(0, 0),
-        Slot::Opens(_) => of_opening(place),
-        Slot::Closes(_) => Broken::of(0, 0),
-        Slot::Blank => Broken::of(0, 0),
-        Slot::HalfWritten => Broken::of(1, 0),
-        Slot::Spoiled => Broken::of(0, 1),
-    }
+    let (half, spoiled) = match s {
+        Slot::Record | Slot::Closes(_) => (0, 0),
+        Slot::Opens(_) => (0, usize::from(place != Place::Outside)),
+        Slot::Blank => (0, 0),
+        Slot::HalfWritten => (1, 0),
+        Slot::Spoiled => (0, 1),
+    };
+    Broken { half, spoiled }
 }
 
 // The slots of a page of that edition.
@@ -71,22 +58,20 @@ fn of_slots(slots: &[u8], edition: u8) -> Broken
     requires { length slots.now ≤ 2048 }
     ensures { Counts (conditions outside (map (slot edition) (words slots.now))) result }
 {
-    let count = slots.len() / 4;
-    let mut broken = Broken::of(0, 0);
-    let mut place = Place::outside();
-    let mut k = 0;
-    while k < count {
+    let mut broken = Broken::default();
+    let mut place = Place::Outside;
+    for k in 0..slots.len() / 4 {
         let s = words::in_slot(words::word_at(slots, 4 * k), edition);
-        broken = broken.and(of_slot(s, place));
-        k += 1;
-        place = place.behind(s, k);
+        broken += of_slot(s, place);
+        place = place.behind(s, k + 1);
     }
     broken
 }
 
 // The same of the page at an index.
+#[tactic(auto, using(survey::proofs::Slots::slots_all))]
 fn of_page(image: &[u8], form: Form, page: usize) -> Broken
-    requires { Lawful form × (page ≤ 32) × (page * size (as_form form) + size (as_form form) ≤ length image.now) }
+    requires { (page ≤ 32) × (page * size (as_form form) + size (as_form form) ≤ length image.now) }
     ensures { Counts (conditions outside (map (slot form.edition) (slots_in (as_form form) page image.now))) result }
 {
     of_slots(
@@ -97,18 +82,14 @@ fn of_page(image: &[u8], form: Form, page: usize) -> Broken
 
 // The used pages of an image that is not refused, after one look at it. 32 pages of 509 slots, the most that a lawful form has, are
 // 16,288 slots.
-pub fn count(image: &[u8], form: Form, look: Look) -> Broken
-    requires lawful { Lawful form }
-    requires image_value { (pages_number (as_form form) image.now ≡ 0) × Told (as_form form) image.now look }
+pub fn count(image: &[u8], form: Form, look: &Look) -> Broken
+    requires { (pages_number (as_form form) image.now ≡ 0) × Told (as_form form) image.now look.now }
     ensures counts { Counts (used_conditions (pages (as_form form) image.now)) result }
     ensures spoiled_bound { result.half + result.spoiled ≤ 16288 }
 {
-    let line = look.line;
-    let mut broken = Broken::of(0, 0);
-    let mut k = 0;
-    while k < look.used {
-        broken = broken.and(of_page(image, form, line[k] as usize));
-        k += 1;
+    let mut broken = Broken::default();
+    for page in look.line.as_slice() {
+        broken += of_page(image, form, *page as usize);
     }
     broken
 }

@@ -1,12 +1,15 @@
 -- The settings that lent bytes are, one by one: the rules have them all at once, the code reads one at its offset. Assumes nothing.
 use Prim.Native.Nat.{ℕ, zero, suc, ◌+◌, ◌*◌, ◌/◌, ◌≤◌, ◌<◌}
 use mathlib.Core.Path.{◌≡◌, refl, sym, ap, ◌∙◌}
-use mathlib.Core.Bool.{true, false}
+use mathlib.Core.Bool.{not}
 use mathlib.Core.List.{List, [], ◌∷◌, ◌++◌, map, map-append}
 use native.Mathlib.Omega.{arith}
 use lib.ListN.{length, get_or, take, drop, length-map, take-append-drop, drop_of_length-le}
 use lib.Seq.{length-take-le, take_all, take-suc, drop-cons}
-use borrow.Author.Tests.{eq-eqb, ne_eqb, le-leb, lt-leb}
+use lib.Dec.{eqb, leb}
+use borrow.Author.Tests.{eq-eqb, ne_eqb, eqb-true, eqb-false}
+use Rattle.rules.proofs.Truth.{by_cases}
+use Rattle.std.specs.List.{list_any, range_with_len}
 use Rattle.rules.specs.Word.{Word, record_word}
 use Rattle.rules.specs.Steps.{record_of}
 use Rattle.rules.specs.Store.{Setting, setting, address_of}
@@ -68,68 +71,41 @@ all_entries s k l = take_all k (triples s) (omega (arith, length_triples s))
 pub none_behind : (s : List ℕ) (k : ℕ) → length s / 3 ≤ k → drop k (triples s) ≡ []
 none_behind s k l = drop_of_length-le (triples s) {i = k} (omega (arith, length_triples s))
 
--- ---- addresses that come again
+-- ---- what is asked of each
+
+-- the settings from the k-th on, by their indexes
+pub entries_from : (s : List ℕ) (k n : ℕ) → k + n ≡ length s / 3 → drop k (triples s) ≡ map (entry s) (range_with_len k n)
+entries_from s k zero e = none_behind s k (omega arith)
+entries_from s k (suc n) e = from_entry s k (omega arith) ∙ ap (λ rs. entry s k ∷ rs) (entries_from s (k + 1) n (omega arith))
 
 abbrev pub addresses_from : List ℕ → ℕ → List ℕ
 addresses_from s k = map address_of (drop k (triples s))
 
-address_from : (s : List ℕ) (k : ℕ) → 3 * k + 3 ≤ length s → addresses_from s k ≡ byte_address s k ∷ addresses_from s (k + 1)
-address_from s k l = ap (map address_of) (from_entry s k l)
+-- which of two numbers stands first is one
+eqb_same : (m n : ℕ) → eqb m n ≡ eqb n m
+eqb_same m n = by_cases (eqb m n) (λ t. t ∙ sym (eq-eqb n m (sym (eqb-true m n t)))) (λ f. f ∙ sym (ne_eqb n m (λ e. eqb-false m n f (sym e))))
 
-module _ (s : List ℕ) (k a : ℕ) where
-  pub named_here : 3 * k + 3 ≤ length s → byte_address s k ≡ a → among a (addresses_from s k) ≡ true
+module _ (s : List ℕ) where
+  pub any_named : (a : ℕ) (ks : List ℕ) → list_any (λ k. eqb (byte_address s k) a) ks ≡ among a (map address_of (map (entry s) ks))
   unfolding among
-  named_here l e = rw (address_from s k l, eq-eqb a (byte_address s k) (sym e))
+  any_named a [] = refl
+  any_named a (k ∷ ks) = rw (any_named a ks, eqb_same (byte_address s k) a)
 
-  pub named_later : 3 * k + 3 ≤ length s → (byte_address s k ≡ a → ⊥) → among a (addresses_from s k) ≡ among a (addresses_from s (k + 1))
-  unfolding among
-  named_later l n = rw (address_from s k l, ne_eqb a (byte_address s k) (λ e. n (sym e)))
-
-  pub named_nowhere : length s / 3 ≤ k → among a (addresses_from s k) ≡ false
-  unfolding among
-  named_nowhere l = ap (λ (rs : List Setting). among a (map address_of rs)) (none_behind s k l)
-
-module _ (s : List ℕ) (k : ℕ) where
-  pub again_here : 3 * k + 3 ≤ length s → among (byte_address s k) (addresses_from s (k + 1)) ≡ true → repeats (addresses_from s k) ≡ true
-  unfolding repeats
-  again_here l t = rw (address_from s k l, t)
-
-  pub again_later : 3 * k + 3 ≤ length s → among (byte_address s k) (addresses_from s (k + 1)) ≡ false
-      → repeats (addresses_from s k) ≡ repeats (addresses_from s (k + 1))
-  unfolding repeats
-  again_later l t = rw (address_from s k l, t)
-
-  pub again_nowhere : length s / 3 ≤ k → repeats (addresses_from s k) ≡ false
-  unfolding repeats
-  again_nowhere l = ap (λ (rs : List Setting). repeats (map address_of rs)) (none_behind s k l)
-
--- ---- addresses that can't be written
-
-module _ (s : List ℕ) (k : ℕ) where
-  pub wrong_here : 3 * k + 3 ≤ length s → 65535 ≤ byte_address s k → a_wrong_address (drop k (triples s)) ≡ true
+  pub any_wrong : (ks : List ℕ) → list_any (λ k. leb 65535 (byte_address s k)) ks ≡ a_wrong_address (map (entry s) ks)
   unfolding a_wrong_address wrong_address
-  wrong_here l e = rw (from_entry s k l, le-leb 65535 (byte_address s k) e)
+  any_wrong [] = refl
+  any_wrong (k ∷ ks) = rw (any_wrong ks)
 
-  pub wrong_later : 3 * k + 3 ≤ length s → byte_address s k < 65535 → a_wrong_address (drop k (triples s)) ≡ a_wrong_address (drop (k + 1) (triples s))
-  unfolding a_wrong_address wrong_address
-  wrong_later l e = rw (from_entry s k l, lt-leb 65535 (byte_address s k) e)
+  pub any_foreign : (o : Owner) (ks : List ℕ) → list_any (λ k. not (o.owns (byte_address s k))) ks ≡ a_foreign o (map (entry s) ks)
+  unfolding a_foreign
+  any_foreign o [] = refl
+  any_foreign o (k ∷ ks) = rw (any_foreign o ks)
 
-  pub wrong_nowhere : length s / 3 ≤ k → a_wrong_address (drop k (triples s)) ≡ false
-  unfolding a_wrong_address
-  wrong_nowhere l = ap a_wrong_address (none_behind s k l)
-
-  module _ (o : Owner) where
-    pub foreign_here : 3 * k + 3 ≤ length s → o.owns (byte_address s k) ≡ false → a_foreign o (drop k (triples s)) ≡ true
-    unfolding a_foreign
-    foreign_here l e = rw (from_entry s k l, e)
-
-    pub foreign_later : 3 * k + 3 ≤ length s → o.owns (byte_address s k) ≡ true → a_foreign o (drop k (triples s)) ≡ a_foreign o (drop (k + 1) (triples s))
-    unfolding a_foreign
-    foreign_later l e = rw (from_entry s k l, e)
-
-    pub foreign_nowhere : length s / 3 ≤ k → a_foreign o (drop k (triples s)) ≡ false
-    unfolding a_foreign
-    foreign_nowhere l = ap (a_foreign o) (none_behind s k l)
+  pub any_again : (k n : ℕ) → k + n ≡ length s / 3
+      → list_any (λ i. among (byte_address s i) (addresses_from s (i + 1))) (range_with_len k n) ≡ repeats (addresses_from s k)
+  unfolding repeats
+  any_again k zero e = rw (none_behind s k (omega arith))
+  any_again k (suc n) e = rw (from_entry s k (omega arith), any_again (k + 1) n (omega arith))
 
 -- ---- the records that they make, as words
 

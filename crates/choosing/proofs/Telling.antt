@@ -1,42 +1,24 @@
 -- What the bytes and the table tell of a change, test by test. Assumes nothing.
-use Prim.Native.Nat.{ℕ, ◌+◌, ◌*◌, ◌%◌, ◌≤◌, ◌<◌}
+use Prim.Native.Nat.{ℕ, ◌+◌, ◌*◌, ◌/◌, ◌%◌, ◌≤◌, ◌<◌}
 use mathlib.Core.Path.{◌≡◌, refl, sym, ap, ◌∙◌}
-use mathlib.Core.Bool.{Bool, true, false, ◌&&◌}
+use mathlib.Core.Bool.{Bool, true, false, not, ◌&&◌}
 use mathlib.Core.List.{List, [], ◌∷◌, ◌++◌, map}
 use mathlib.Core.Option.{Option, none, some}
 use native.Mathlib.Omega.{arith}
-use lib.ListN.{length, take, drop, take-append-drop}
-use lib.Dec.{leb}
-use borrow.Author.Tests.{eq-eqb, ne_eqb, le-leb, lt-leb, lt-ltb, le-ltb, leb-false}
+use lib.ListN.{length, take}
+use borrow.Author.Tests.{eq-eqb, ne_eqb, le-leb, lt-leb, lt-ltb, le-ltb}
 use Rattle.rules.specs.Word.{has_groups}
 use Rattle.rules.specs.Page.{Page}
 use Rattle.rules.specs.Store.{Setting, setting, address_of, settings, journal, last_of, value, count}
 use Rattle.rules.specs.Steps.{is_value, all_values}
-use Rattle.rules.specs.Call.{repeats, wrong_group, wrong_address, a_wrong_address, is_held, is_new, triples, group_of}
+use Rattle.rules.specs.Call.{repeats, wrong_group, is_held, is_new, triples, group_of}
 use Rattle.changes.specs.Entries.{byte_address, byte_value}
-use Rattle.rules.proofs.Truth.{or_false_left, or_false_right}
+use Rattle.rules.proofs.Truth.{or_second}
 use Rattle.rules.proofs.Stores.{count_append}
-use Rattle.rules.proofs.Settings.{settings_rising, last_of_settings}
-use Rattle.changes.proofs.Entries.{entry, from_entry, next_entry, length_triples}
-use Rattle.settings.specs.Held.{Holds}
-use Rattle.store.proofs.Values.{Finds}
+use Rattle.rules.proofs.Settings.{last_of_settings}
+use Rattle.changes.proofs.Entries.{entry, next_entry, length_triples}
 use Rattle.choosing.specs.declared.Known.{Known}
 use Rattle.choosing.specs.Known.{Adds, Knows}
-
--- ---- one setting more
-
-module _ {found : Option ℕ} {value : ℕ} {k : Known} where
-  pub same_value : {u : ℕ} → found ≡ some u → u ≡ value → Adds found value k k
-  unfolding is_held is_value
-  same_value e v = record { new = rw e (omega arith); same = rw (e, eq-eqb _ _ v) }
-
-  pub other_value : {u : ℕ} → found ≡ some u → (u ≡ value → ⊥) → Adds found value k (record { new = k.new; same = false })
-  unfolding is_held is_value
-  other_value e v = record { new = rw e (omega arith); same = rw (e, ne_eqb _ _ v) }
-
-  pub no_value : found ≡ none → {r : Known} → r.new ≡ k.new + 1 → r.same ≡ false → Adds found value k r
-  unfolding is_held is_value
-  no_value e n s = record { new = rw e n; same = rw e s }
 
 -- ---- the tests of a group
 
@@ -48,35 +30,32 @@ module _ (e : ℕ) (s : List ℕ) where
   unfolding wrong_group group_of has_groups
   no_groups l = rw (lt-leb 2 e l)
 
-  module _ (has : 2 ≤ e) where
-    pub cut_short : (length s % 3 ≡ 0 → ⊥) → wrong_group e (group_of s) ≡ true
+  pub cut_short : (length s % 3 ≡ 0 → ⊥) → wrong_group e (group_of s) ≡ true
+  unfolding wrong_group group_of
+  cut_short n = rw (ne_eqb (length s % 3) 0 n) (or_second (not (has_groups e)) refl)
+
+  module _ (three : length s % 3 ≡ 0) where
+    pub too_few : length s / 3 < 1 → wrong_group e (group_of s) ≡ true
+    unfolding wrong_group group_of
+    too_few l =
+        rw (eq-eqb (length s % 3) 0 three, eq-eqb (length rs) 0 (omega (arith, length_triples s))) (or_second (not (has_groups e)) refl)
+
+    pub too_many : 8 < length s / 3 → wrong_group e (group_of s) ≡ true
+    unfolding wrong_group group_of
+    too_many l =
+        let t = length_triples s in
+        rw (eq-eqb (length s % 3) 0 three, ne_eqb (length rs) 0 (λ z. omega arith), lt-ltb 8 (length rs) (omega arith)) (or_second (not (has_groups e)) refl)
+
+    pub by_repeats : 2 ≤ e → 1 ≤ length s / 3 → length s / 3 ≤ 8 → repeats (map address_of rs) ≡ wrong_group e (group_of s)
     unfolding wrong_group group_of has_groups
-    cut_short n = rw (le-leb 2 e has, ne_eqb (length s % 3) 0 n)
+    by_repeats has m l =
+        let t = length_triples s in
+        rw (le-leb 2 e has, eq-eqb (length s % 3) 0 three, ne_eqb (length rs) 0 (λ z. omega arith), le-ltb 8 (length rs) (omega arith))
 
-    module _ (three : length s % 3 ≡ 0) where
-      pub no_settings : length s ≡ 0 → wrong_group e (group_of s) ≡ true
-      unfolding wrong_group group_of has_groups
-      no_settings z = rw (le-leb 2 e has, eq-eqb (length s % 3) 0 three, eq-eqb (length rs) 0 (omega (arith, length_triples s)))
-
-      module _ (more : length s ≡ 0 → ⊥) where
-        pub too_many : 24 < length s → wrong_group e (group_of s) ≡ true
-        unfolding wrong_group group_of has_groups
-        too_many l =
-            let t = length_triples s in
-            rw (le-leb 2 e has, eq-eqb (length s % 3) 0 three, ne_eqb (length rs) 0 (λ z. omega arith), lt-ltb 8 (length rs) (omega arith))
-
-        pub by_repeats : length s ≤ 24 → wrong_group e (group_of s) ≡ repeats (map address_of rs)
-        unfolding wrong_group group_of has_groups
-        by_repeats l =
-            let t = length_triples s in
-            rw (le-leb 2 e has, eq-eqb (length s % 3) 0 three, ne_eqb (length rs) 0 (λ z. omega arith), le-ltb 8 (length rs) (omega arith))
+-- what each test of the bytes tells
+pub ruleset group_tests = (no_groups, cut_short, too_few, too_many, by_repeats)
 
 -- ---- the settings passed
-
-wrong_before : (rs qs : List Setting) (a v : ℕ) → a_wrong_address (rs ++ (setting a v ∷ qs)) ≡ false → a < 65535
-unfolding a_wrong_address wrong_address
-wrong_before [] qs a v h = leb-false 65535 a (or_false_left (leb 65535 a) _ h)
-wrong_before (setting b u ∷ rs) qs a v h = wrong_before rs qs a v (or_false_right (leb 65535 b) _ h)
 
 all_more : (rs : List Setting) (a v : ℕ) (ps : List Page) → all_values (rs ++ (setting a v ∷ [])) ps ≡ (is_value (value a ps) v && all_values rs ps)
 unfolding all_values
@@ -90,21 +69,12 @@ all_more (setting b u ∷ rs) a v ps =
     swapped false true z = refl
     swapped false false z = refl
 
+-- a table of the settings of a store finds what it holds
+pub found_value : (ps : List Page) {t : List Setting} (a : ℕ) → t ≡ settings ps → last_of a t ≡ value a ps
+unfolding settings value
+found_value ps a e = ap (last_of a) e ∙ last_of_settings a (journal ps)
+
 module _ (s : List ℕ) (k : ℕ) (l : 3 * k + 3 ≤ length s) where
-  pub right_address : a_wrong_address (triples s) ≡ false → byte_address s k < 65535
-  right_address h =
-      wrong_before (take k (triples s)) (drop (k + 1) (triples s)) (byte_address s k) (byte_value s k)
-      (ap a_wrong_address (ap (λ (rs : List Setting). take k (triples s) ++ rs) (sym (from_entry s k l)) ∙ take-append-drop k (triples s)) ∙ h)
-
-  -- a table that holds the settings of a store finds what it holds
-  pub found_value : (ps : List Page) {xs ys : List ℕ} (held : ℕ) {a : ℕ} {r : Option ℕ} → length (settings ps) ≤ 192
-      → Holds xs ys held (settings ps) → a_wrong_address (triples s) ≡ false → a ≡ byte_address s k → Finds xs ys a (last_of a) r
-      → r ≡ value (byte_address s k) ps
-  unfolding settings value
-  found_value ps held {a} few holds right e f =
-      f (settings ps) held (settings_rising (journal ps)) few (omega (arith, right_address right, e)) holds
-      ∙ ap (λ (x : ℕ). last_of x (settings ps)) e ∙ last_of_settings (byte_address s k) (journal ps)
-
   pub knows_more : (ps : List Page) (x y : Known) {found : Option ℕ} {v : ℕ} → found ≡ value (byte_address s k) ps → v ≡ byte_value s k → Adds found v x y
       → Knows ps (take k (triples s)) x → Knows ps (take (k + 1) (triples s)) y
   unfolding is_new count

@@ -1,26 +1,31 @@
--- The cleared page of least wear, by the spares of the pages: the wear + 1 of a cleared page, and 0 of any other.
-use Rattle.std.specs.Prelude.{ℕ, zero, suc, ◌≡◌, List, [], ◌∷◌, take}
-use Rattle.rules.specs.Store.{Candidate, nobody, page, better, index}
+-- The cleared page of least wear, by the roles of the pages.
+use Rattle.std.specs.Prelude.{ℕ, suc, List, [], ◌∷◌, Option, None, Some}
+use Rattle.rules.specs.Store.{Candidate, nobody, page, better}
+use Rattle.survey.specs.declared.Role.{Role}
+use Rattle.survey.specs.declared.Role.TheVariants.{Used, Cleared, Unclean}
 use Rattle.choosing.specs.declared.Candidate.{Candidate as Choice}
 
--- the candidate that a page of that spare is: nobody, if it is 0
-unfoldable pub offer : (index spare : ℕ) → Candidate
-offer k zero = nobody
-offer k (suc wear) = page k wear
+-- the candidate that a page of that role is: nobody, if it is not cleared
+abbrev pub offer : (index : ℕ) → Role → Candidate
+offer k (Used o) = nobody
+offer k (Cleared wear) = page k wear
+offer k Unclean = nobody
 
 -- the candidate that the code's is
-abbrev pub as_candidate : Choice → Candidate
-as_candidate c = offer c.index c.spare
+abbrev pub as_candidate : Option Choice → Candidate
+as_candidate None = nobody
+as_candidate (Some b) = page b.index b.wear
 
--- one that is nobody has index 0
-unfoldable pub Plain : Choice → Type 0
-Plain c = c.index ≡ index (as_candidate c)
-
--- the best of the pages whose spares these are, the first of which has that index
-unfoldable pub least : (index : ℕ) → List ℕ → Candidate
+-- the best of the pages of these roles, the first of which has that index
+unfoldable pub least : (index : ℕ) → List Role → Candidate
 least k [] = nobody
-least k (s ∷ ss) = better (offer k s) (least (suc k) ss)
+least k (r ∷ rs) = better (offer k r) (least (suc k) rs)
 
--- the best of an array's 32 places
-unfoldable pub chosen : List ℕ → Candidate
-chosen xs = least 0 (take 32 xs)
+-- the best of all pages
+abbrev pub chosen : List Role → Candidate
+chosen rs = least 0 rs
+
+-- its index, if there is one
+abbrev pub index_in : Candidate → Option ℕ
+index_in nobody = None
+index_in (page k wear) = Some k

@@ -2,285 +2,231 @@
 
 #![tactic(auto)]
 
-ghost use Rattle.std.specs.Prelude.{◌≡◌, false, cond, ◌||◌, List, ℕ, ◌+◌, ◌≤◌, ◌<◌, length};
+ghost use Rattle.std.specs.Prelude.{◌≡◌, false, ◌||◌, List, ℕ, ◌+◌, ◌≤◌, ◌<◌, length, IsSome};
 ghost use Rattle.rules.specs.Page.{Page};
-ghost use Rattle.rules.specs.Store.{Setting, better, index, settings};
-ghost use Rattle.rules.specs.Owner.{named_owner, held_by};
+ghost use Rattle.rules.specs.Store.{Setting, better, settings, count};
+ghost use Rattle.rules.specs.Owner.{is_own};
 ghost use Rattle.rules.specs.Call.{a_wrong_address, wrong_group, new_in, no_room, crowded, triples, group_of};
+ghost use Rattle.owners.specs.Read.{as_owner};
+ghost use Rattle.changes.specs.Read.{as_change};
 ghost use Rattle.pages.specs.Read.{as_form};
-ghost use Rattle.settings.specs.Held.{Holds, as_option};
-ghost use Rattle.store.specs.Opened.{Opens, Opened};
-ghost use Rattle.choosing.specs.Candidate.{offer, as_candidate, Plain, chosen};
-ghost use Rattle.choosing.specs.Known.{Has, Adds, Knows};
-ghost use Rattle.choosing.specs.Way.{new_page_of, change_of, Lent, Tested, Chosen};
+ghost use Rattle.settings.specs.Held.{as_option};
+ghost use Rattle.store.specs.Opened.{Holding, Opened};
+ghost use Rattle.choosing.specs.Candidate.{offer, as_candidate, index_in, chosen};
+ghost use Rattle.choosing.specs.Known.{Adds, Knows};
+ghost use Rattle.choosing.specs.Way.{new_page_of, Tested, Chosen};
 
-use owners::TIMER_FIRST;
-use pages::{Form, ORDER_MAX, PAGES_MAX};
-use settings::{HELD_MAX, Held};
+use changes::Change;
+use owners::{Owner, TIMER_FIRST};
+use pages::{Form, ORDER_MAX};
+use settings::{HELD_MAX, Table};
 use store::Store;
-use survey::{ADDRESS, GROUP, NO_ROOM, OK, ORDER_END, OWNER, UNCLEAN};
+use survey::{Look, Refusal, Role};
 
-// Refuse by a number; stay, the values being held already; program the change at a page and from its slot there on; open a page
-// with an order; move to a page with an order.
-#[derive(Clone, Copy)]
+// Stay, the values being held already; program the change at a page and from its slot there on; open a page with an order; move to
+// a page with an order.
+#[derive(Clone, Copy, Debug, PartialEq, Eq)]
 pub enum Way {
-    Refuse(u8),
     Stay,
-    Append(usize, usize),
-    Open(usize, u32),
-    Move(usize, u32),
+    Append { page: usize, slot: usize },
+    Open { page: usize, order: u32 },
+    Move { page: usize, order: u32 },
 }
 
-// A cleared page that may be taken; `spare` 0 says that there is none yet.
-#[derive(Clone, Copy)]
-pub struct Candidate {
-    pub index: usize,
-    pub spare: u32,
+// A cleared page that may be taken. It is offered each page and hands back the better of both: a form that was asked for
+// (docs/DECISIONS.md).
+#[derive(Clone, Copy, Debug, PartialEq, Eq)]
+struct Candidate {
+    index: usize,
+    wear: u16,
 }
 
-impl Candidate {
-    // The better of the candidate and the page at the index, offered by rising index: of least wear, and of equals the first.
-    fn or(self, index: usize, spare: u32) -> Candidate
-        ensures result_value { as_candidate result ≡ better (as_candidate self) (offer index spare) }
-        ensures plain { Plain self → Plain result }
-    {
-        let best = self.spare;
-        let is_none = spare == 0;
-        if is_none {
-            return self;
-        }
-        if best == 0 {
-            return Candidate { index, spare };
-        }
-        if spare < best {
-            return Candidate { index, spare };
-        }
-        self
+// The better of the best page so far and the page of a greater index, which has that role.
+#[tactic(auto, using(crate::proofs::Candidates::better_of_two))]
+fn better(best: Option<Candidate>, index: usize, role: Role) -> Option<Candidate>
+    ensures { as_candidate result ≡ better (as_candidate best) (offer index role) }
+{
+    let Role::Cleared(wear) = role else {
+        return best;
+    };
+    let is_kept = best.is_some_and(|least| least.wear <= wear);
+    if is_kept {
+        best
+    } else {
+        Some(Candidate { index, wear })
     }
 }
 
 // S10. The page that is taken: of the cleared ones that of least wear, and of equals the first.
-fn least_worn(spares: &[u32; PAGES_MAX]) -> Candidate
-    ensures result_value { as_candidate result ≡ chosen spares.now }
-    ensures index_value { result.index ≡ index (chosen spares.now) }
+#[tactic(auto, unfolding(crate::specs::Candidate::least), using(crate::proofs::Candidates::least_next, crate::proofs::Candidates::least_all))]
+fn least_worn(roles: &[Role]) -> Option<usize>
+    ensures { result ≡ index_in (chosen roles.now) }
 {
-    let mut best = Candidate { index: 0, spare: 0 };
-    let mut i = 0;
-    while i < PAGES_MAX {
-        best = best.or(i, spares[i]);
-        i += 1;
+    let mut best = None;
+    for (index, role) in roles.iter().enumerate() {
+        best = better(best, index, *role);
     }
-    best
+    best.map(|least| least.index)
 }
 
-// A new page, since the active one, of that order, has no free slot: the last cleared page is moved to, any other is opened.
-fn new_page(spares: &[u32; PAGES_MAX], cleared: usize, order: u32) -> Way
-    requires { order < 4194304 }
-    ensures { result ≡ new_page_of spares.now cleared order }
+// A new page, since the active one has no free slot: the last cleared page is moved to, any other is opened.
+fn new_page(look: &Look) -> Result<Way, Refusal>
+    requires fits { look.now.order < 4194304 }
+    requires cleared { IsSome (index_in (chosen look.now.roles.items)) }
+    ensures { result ≡ new_page_of look.now.roles.items look.now.cleared look.now.order }
 {
-    let is_last = order == ORDER_MAX;
+    let is_last = look.order == ORDER_MAX;
     if is_last {
-        return Way::Refuse(ORDER_END);
+        return Err(Refusal::OrderEnd);
     }
-    let taken = least_worn(spares);
-    let is_only_one = cleared < 2;
+    let page = least_worn(&look.roles).unwrap();
+    let order = look.order + 1;
+    let is_only_one = look.cleared < 2;
     if is_only_one {
-        return Way::Move(taken.index, order + 1);
+        return Ok(Way::Move { page, order });
     }
-    Way::Open(taken.index, order + 1)
+    Ok(Way::Open { page, order })
 }
 
 // What a table tells of a change: how many of its addresses are new, and whether all have their values.
-#[derive(Clone, Copy)]
+#[derive(Clone, Copy, Debug, PartialEq, Eq)]
 pub struct Known {
     pub new: usize,
     pub same: bool,
 }
 
 impl Known {
-    // With one setting more, whose address is new.
-    fn with_new(self) -> Known
-        requires { self.new ≤ 65535 }
-        ensures { (result.new ≡ self.new + 1) × (result.same ≡ false) }
-    {
-        Known {
-            new: self.new + 1,
-            same: false,
-        }
-    }
-
     // With one setting more, of whose address that was found.
-    fn with(self, found: Held, value: u8) -> Known
+    #[tactic(auto, unfolding(rules::specs::Call::is_held, rules::specs::Steps::is_value))]
+    fn with(self, found: Option<u8>, value: u8) -> Known
         requires { self.new ≤ 65535 }
         ensures { Adds (as_option found) value self result }
     {
         match found {
-            Held::Value(held) => {
-                if held == value {
-                    return self;
-                }
-                Known {
-                    new: self.new,
-                    same: false,
-                }
-            }
-            Held::Nothing => self.with_new(),
+            Some(held) => Known {
+                new: self.new,
+                same: held == value && self.same,
+            },
+            None => Known {
+                new: self.new + 1,
+                same: false,
+            },
         }
     }
 }
 
 // What the table tells of the entries.
-pub fn told_of<'a>(
-    addresses: &'a [u16; HELD_MAX],
-    values: &'a [u8; HELD_MAX],
-    entries: &[u8],
-) -> Known
+pub fn told_of(table: &Table, entries: &[u8]) -> Known
     requires { length entries.now ≤ 65535 }
-    ensures knows { (ps : List Page) (held : ℕ) → length (settings ps) ≤ 192 → Holds addresses.now values.now held (settings ps)
-        → a_wrong_address (triples entries.now) ≡ false → Knows ps (triples entries.now) result }
+    ensures knows { (ps : List Page) → table.now ≡ settings ps → a_wrong_address (triples entries.now) ≡ false
+        → Knows ps (triples entries.now) result }
     ensures result_in_bounds { result.new ≤ length (triples entries.now) }
 {
-    let count = entries.len() / 3;
     let mut known = Known { new: 0, same: true };
-    let mut k = 0;
-    while k < count {
-        let found = settings::value_in(addresses, values, changes::address_at(entries, k));
+    for k in 0..entries.len() / 3 {
+        let found = table.value(changes::address_at(entries, k));
         known = known.with(found, changes::value_at(entries, k));
-        k += 1;
     }
     known
 }
 
 // N9. GROUP: of a group, the edition has none, or it is not of 1 to 8 settings, or an address repeats.
+#[tactic(auto, using(crate::proofs::Telling::group_tests))]
 fn is_wrong_group(edition: u8, entries: &[u8]) -> bool
     ensures { result ≡ wrong_group edition (group_of entries.now) }
 {
     let has_no_groups = edition < 2;
-    if has_no_groups {
-        return true;
-    }
-    if entries.len() % 3 != 0 {
-        return true;
-    }
-    if entries.len() == 0 {
-        return true;
-    }
-    if 24 < entries.len() {
+    if has_no_groups || entries.len() % 3 != 0 || !(1..=8).contains(&(entries.len() / 3)) {
         return true;
     }
     changes::repeats(entries)
 }
 
 // A change is a single setting, or a group of settings, which takes marks.
-fn is_wrong(edition: u8, entries: &[u8], marks: bool) -> bool
-    ensures { result ≡ wrong_group edition (change_of marks entries.now) }
+#[tactic(auto, unfolding(changes::specs::Entries::change_of, rules::specs::Call::wrong_group))]
+fn is_wrong(edition: u8, change: &Change) -> bool
+    ensures { result ≡ wrong_group edition (as_change change.now) }
 {
-    if marks {
-        return is_wrong_group(edition, entries);
-    }
-    false
+    change.marks && is_wrong_group(edition, change.entries)
 }
 
-// C21. How many slots a change takes.
-pub fn slots_of(entries: &[u8], marks: bool) -> usize
-    ensures { result ≡ cond marks (length (triples entries.now) + 2) (length (triples entries.now)) }
+// The tests that come before the table is asked, and the first that refuses the owner's change.
+fn first_tests(store: &Store, form: Form, owner: Owner, change: &Change) -> Result<(), Refusal>
+    requires { length store.now.look.line.items + store.now.look.cleared ≤ 32 }
+    ensures { (i : List ℕ) (t : List Setting) → Holding (as_form form) i store.now t
+        → Tested (as_form form) (as_owner owner) (as_change change.now) (triples change.now.entries.now) i result }
 {
-    let n = entries.len() / 3;
-    if marks {
-        return n + 2;
+    let look = &store.look;
+    let is_page_unclean = look.line.len() + look.cleared < look.count;
+    if is_page_unclean || store.group {
+        return Err(Refusal::Unclean);
     }
-    n
-}
-
-// The tests that come before the table is asked: the number of the first that refuses the owner's change, or 0.
-fn first_tests(store: Store, form: Form, timer: bool, entries: &[u8], marks: bool) -> u8
-    requires { (store.number ≡ 0 → store.look.used + store.look.cleared ≤ 32) × Lent marks entries.now }
-    ensures { (i xs ys : List ℕ) → Opens (as_form form) i store xs ys
-        → Tested (as_form form) (named_owner timer) (change_of marks entries.now) (triples entries.now) i result }
-{
-    let number = store.number;
-    if number != OK {
-        return number;
+    if is_wrong(form.edition, change) {
+        return Err(Refusal::Group);
     }
-    if store.look.used + store.look.cleared < store.look.count {
-        return UNCLEAN;
+    if changes::a_wrong_address(change.entries) {
+        return Err(Refusal::Address);
     }
-    if store.group {
-        return UNCLEAN;
+    if changes::a_foreign(change.entries, owner) {
+        return Err(Refusal::Owner);
     }
-    if is_wrong(form.edition, entries, marks) {
-        return GROUP;
-    }
-    if changes::a_wrong_address(entries) {
-        return ADDRESS;
-    }
-    if changes::a_foreign(entries, timer) {
-        return OWNER;
-    }
-    OK
+    Ok(())
 }
 
 // How many of the addresses held are the owner's: in the table the handset's come first.
-fn held_by<'a>(addresses: &'a [u16; HELD_MAX], held: usize, timer: bool) -> usize
-    requires { (ps : List Page) × Has addresses.now held ps }
-    ensures value { (ps : List Page) → Has addresses.now held ps → result ≡ held_by (named_owner timer) ps }
+fn held_by(table: &Table, owner: Owner) -> usize
+    ensures value { result ≡ count (is_own (as_owner owner)) table.now }
     ensures upper_bound { result ≤ 192 }
 {
-    let handsets = settings::place(addresses, TIMER_FIRST);
-    if timer {
-        return held - handsets;
+    let held = table.len();
+    let handsets = table.below(TIMER_FIRST);
+    match owner {
+        Owner::Handset => handsets,
+        Owner::Timer => held - handsets,
     }
-    handsets
 }
 
-// N6. NO ROOM: with the new addresses, if there are such, more than 192 would be held, or more by the owner than it may.
-fn is_full<'a>(addresses: &'a [u16; HELD_MAX], held: usize, timer: bool, new: usize) -> bool
-    requires has { (ps : List Page) × Has addresses.now held ps }
-    requires bound { new ≤ 65535 }
-    ensures { (ps : List Page) (rs : List Setting) → Has addresses.now held ps → new ≡ new_in rs ps
-        → result ≡ (no_room rs ps || crowded (named_owner timer) rs ps) }
+// N6. NO ROOM: with the new addresses more than 192 would be held, or, if there are such, more by the owner than it may.
+fn is_full(table: &Table, owner: Owner, new: usize) -> bool
+    requires { new ≤ 65535 }
+    ensures { (ps : List Page) (rs : List Setting) → table.now ≡ settings ps → new ≡ new_in rs ps
+        → result ≡ (no_room rs ps || crowded (as_owner owner) rs ps) }
 {
-    let is_nothing_new = new == 0;
-    if is_nothing_new {
-        return false;
-    }
-    let is_over = HELD_MAX < held + new;
+    let is_over = HELD_MAX < table.len() + new;
     if is_over {
         return true;
     }
-    let most = owners::most();
-    most < held_by(addresses, held, timer) + new
+    let is_some_new = new != 0;
+    let most = owner.most();
+    is_some_new && most < held_by(table, owner) + new
 }
 
 // What an owner's write of the change does to the image that the store and the table were opened from.
-pub fn choose<'a>(
-    store: Store,
+pub fn choose(
+    store: &Store,
     form: Form,
-    timer: bool,
-    addresses: &'a [u16; HELD_MAX],
-    values: &'a [u8; HELD_MAX],
-    entries: &[u8],
-    marks: bool,
-) -> Way
-    requires opened { Opened (as_form form) store addresses.now values.now }
-    requires lent { Lent marks entries.now }
-    ensures { (i : List ℕ) → Opens (as_form form) i store addresses.now values.now
-        → Chosen (as_form form) (named_owner timer) (change_of marks entries.now) i result }
+    owner: Owner,
+    table: &Table,
+    change: &Change,
+) -> Result<Way, Refusal>
+    requires { Opened (as_form form) store.now table.now }
+    ensures { (i : List ℕ) → Holding (as_form form) i store.now table.now
+        → Chosen (as_form form) (as_owner owner) (as_change change.now) i result }
 {
-    let number = first_tests(store, form, timer, entries, marks);
-    if number != OK {
-        return Way::Refuse(number);
-    }
-    let known = told_of(addresses, values, entries);
+    first_tests(store, form, owner, change)?;
+    let known = told_of(table, change.entries);
     if known.same {
-        return Way::Stay;
+        return Ok(Way::Stay);
     }
-    if is_full(addresses, store.held, timer, known.new) {
-        return Way::Refuse(NO_ROOM);
+    if is_full(table, owner, known.new) {
+        return Err(Refusal::NoRoom);
     }
-    if slots_of(entries, marks) <= form.slots - store.look.free {
-        return Way::Append(store.look.active, store.look.free);
+    let look = &store.look;
+    if change.slots() <= form.slots - look.free {
+        return Ok(Way::Append {
+            page: look.active,
+            slot: look.free,
+        });
     }
-    let spares = store.look.spares;
-    new_page(&spares, store.look.cleared, store.look.order)
+    new_page(look)
 }

@@ -1,138 +1,79 @@
 -- Laws of where slots stand. Assumes nothing.
-use Prim.Native.Nat.{ℕ, ◌+◌, ◌-◌, ◌*◌, ◌≤◌, ◌<◌}
-use mathlib.Core.Path.{◌≡◌, refl, sym, ap, ◌∙◌, subst}
-use mathlib.Core.Bool.{true, false, not, ◌&&◌}
+use Prim.Native.Nat.{ℕ, ◌+◌, ◌-◌, ◌*◌, ◌≤◌}
+use mathlib.Core.Path.{◌≡◌, refl, sym, ap, ◌∙◌}
+use mathlib.Core.Bool.{true, false, ◌&&◌}
 use mathlib.Core.List.{List, [], ◌∷◌, ◌++◌, map, map-append}
 use native.Mathlib.Omega.{arith}
 use lib.ListN.{length, take, drop, length-append, length-map, length-drop, drop_of_length-le}
 use lib.Seq.{length-take-le, drop-append-le}
-use lib.Dec.{eqb, leb}
+use lib.Dec.{eqb}
 use types.Run.{OneOf, miss}
 use denote.Enum.Declared.{tag_of}
-use borrow.Author.Tests.{eqb-false, leb-true, eq-eqb, ne_eqb}
+use borrow.Author.Tests.{eqb-true, eq-eqb}
 use Rattle.rules.proofs.Slots.{neither_counts, place_append}
-use Rattle.rules.specs.Word.{Word, words, sound, low16, third, recorded, opens, closes, neither, mark, has_groups, sound_slot, slot, Condition, Blank}
+use Rattle.rules.specs.Word.{Word, words, low16, third, recorded, opens, closes, neither, slot, Condition, Blank}
 use Rattle.rules.specs.Word.{HalfWritten, Spoiled}
-use Rattle.rules.specs.Store.{Setting, setting, Place, outside, inside, lost, behind, closed, counted, place_behind, in_group}
-use Rattle.rules.proofs.Truth.{by_cases, not_both, and_right}
+use Rattle.rules.specs.Store.{Setting, setting, Place, outside, inside, lost, behind, rightly_closed, closed, counted, place_behind, in_group}
+use Rattle.rules.proofs.Truth.{by_cases, and_left, and_right}
 use Rattle.words.specs.contracts.Slot.{the_type}
 use Rattle.words.specs.declared.Slot.{Slot as Answer}
 use Rattle.words.specs.declared.Slot.TheVariants as code
 use Rattle.words.specs.Read.{as_slot, word_in}
 use Rattle.words.proofs.Parts.{length_words, next_word}
-use Rattle.groups.specs.declared.Place.{Place as Numbers}
-use Rattle.groups.specs.Stands.{as_records, Addressed, Ran, Stands, Proper, is_closed}
+use Rattle.groups.specs.contracts.Place.{the_type as place_type}
+use Rattle.groups.specs.declared.Place.{Place as Code}
+use Rattle.groups.specs.declared.Place.TheVariants.{Outside, Inside, Lost}
+use Rattle.groups.specs.Stands.{as_records, Stands, is_closed}
 
--- ---- what a slot can be
-
-proper_mark : (v : ℕ) → Proper (mark v)
-unfolding mark Proper
-proper_mark v =
-    by_cases (eqb v 0) (λ z. rw z (omega arith))
-    (λ z.
-    let n = eqb-false v 0 z in
-    by_cases (leb v 8) (λ l. let m = leb-true v 8 l in rw (z, l) (omega arith, omega arith))
-    (λ l.
-    by_cases (leb 129 v && leb v 136)
-    (λ t. let m = leb-true v 136 (and_right (leb 129 v) _ t) in rw (z, l, t) (omega arith))
-    (λ t. rw (z, l, t) tt)))
-
--- of a word whose first two bytes are bytes
-pub slot_proper : (edition : ℕ) (w : Word) → low16 w ≤ 65535 → Proper (slot edition w)
-unfolding slot sound_slot Proper
-slot_proper edition w few =
-    by_cases (sound w)
-    (λ s.
-    by_cases (eqb (low16 w) 65535)
-    (λ t. by_cases (has_groups edition) (λ g. rw (s, t, g) (proper_mark (third w))) (λ g. rw (s, t, g) tt))
-    (λ t. let n = eqb-false (low16 w) 65535 t in rw (s, t) (below few n)))
-    (λ s. rw s tt)
-  where
-    below : {a : ℕ} → a ≤ 65535 → (a ≡ 65535 → ⊥) → a < 65535
-    below l n = omega arith
-
--- ---- one slot more
+-- ---- records, one after the other
 
 pub records_more : (from : ℕ) (xs : List Word) (w : Word) → from ≤ length xs
     → as_records (drop from (xs ++ w ∷ [])) ≡ as_records (drop from xs) ++ setting (low16 w) (third w) ∷ []
 records_more from xs w l = ap as_records (drop-append-le from xs (w ∷ []) l) ∙ map-append _ (drop from xs) (w ∷ [])
 
-pub addressed_append : (xs ys : List Setting) → Addressed xs → Addressed ys → Addressed (xs ++ ys)
-unfolding Addressed
-addressed_append [] ys p q = q
-addressed_append (setting a v ∷ xs) ys p q = (p.0, addressed_append xs ys p.1 q)
-
-pub ran_more : (xs : List Word) (from : ℕ) (w : Word) → low16 w < 65535 → Ran xs from → Ran (xs ++ w ∷ []) from
-unfolding Ran Addressed
-ran_more xs from w l h = (
-  omega (arith, length-append xs (w ∷ []), h.0),
-  subst Addressed (sym (records_more from xs w h.0)) (addressed_append (as_records (drop from xs)) (setting (low16 w) (third w) ∷ []) h.1 (l, tt)),
-)
-
--- from the next slot on there is nothing yet
-ran_anew : (xs : List Word) (w : Word) (from : ℕ) → length xs + 1 ≡ from → Ran (xs ++ w ∷ []) from
-unfolding Ran Addressed
-ran_anew xs w from e =
-    let l : length (xs ++ w ∷ []) ≤ from = omega (arith, length-append xs (w ∷ [])) in
-    (omega (arith, length-append xs (w ∷ [])), subst Addressed (ap as_records (sym (drop_of_length-le (xs ++ w ∷ []) {i = from} l))) tt)
-
 -- ---- where it stands
 
-pub stands_ran : (at : Place) (xs : List Word) (p : Numbers) → Stands at xs p → Ran xs p.from
+-- the code's place is of the kind of the rules'; callers prove by cases with it
+pub by_kind : (P : Place → Code → Type 0) (at : Place) (xs : List Word) (p : Code) → Stands at xs p
+    → P outside Outside
+    → ((n : ℕ) (rs : List Setting) (number first : ℕ) → (number ≡ n) × (first ≤ length xs) × (as_records (drop first xs) ≡ rs)
+    → P (inside n rs) (Inside number first))
+    → P lost Lost
+    → P at p
 unfolding Stands
-stands_ran outside xs p h = h.1
-stands_ran (inside n rs) xs p h = h.1
-stands_ran lost xs p h = h.1
+by_kind P outside xs Outside h at_outside at_inside at_lost = at_outside
+by_kind P outside xs (Inside m f) h at_outside at_inside at_lost = absurd h
+by_kind P outside xs Lost h at_outside at_inside at_lost = absurd h
+by_kind P (inside n rs) xs Outside h at_outside at_inside at_lost = absurd h
+by_kind P (inside n rs) xs (Inside m f) h at_outside at_inside at_lost = at_inside n rs m f h
+by_kind P (inside n rs) xs Lost h at_outside at_inside at_lost = absurd h
+by_kind P lost xs Outside h at_outside at_inside at_lost = absurd h
+by_kind P lost xs (Inside m f) h at_outside at_inside at_lost = absurd h
+by_kind P lost xs Lost h at_outside at_inside at_lost = at_lost
 
--- outside a group the number is 0, and only there
-pub stands_outside : (at : Place) (xs : List Word) (p : Numbers) → Stands at xs p → p.number ≡ 0 → at ≡ outside
-unfolding Stands
-stands_outside outside xs p h z = refl
-stands_outside (inside n rs) xs p h z = absurd (omega (arith, h.0, h.2))
-stands_outside lost xs p h z = absurd (omega (arith, h.0))
+-- in a group a slot that is no record and closes nothing loses it
+loses : (w : Word) (s : Answer) → (s ≡ code.Record → ⊥) → ((n : ℕ) → s ≡ code.Closes n → ⊥)
+    → ((n : ℕ) (rs : List Setting) → behind (inside n rs) (as_slot w s) ≡ lost) × (behind lost (as_slot w s) ≡ lost)
+unfolding behind
+loses w code.Record r c = absurd (r refl)
+loses w (code.Opens n) r c = (λ m rs. refl, refl)
+loses w (code.Closes n) r c = absurd (c n refl)
+loses w code.Blank r c = (λ m rs. refl, refl)
+loses w code.HalfWritten r c = (λ m rs. refl, refl)
+loses w code.Spoiled r c = (λ m rs. refl, refl)
 
--- behind a slot of each kind
-module _ (xs : List Word) (p : Numbers) (w : Word) (next : ℕ) (e : length xs + 1 ≡ next) (r : Numbers) where
-  abbrev ys : List Word
-  ys = xs ++ w ∷ []
-
-  pub record_behind : (at : Place) → Stands at xs p → low16 w < 65535 → Stands (behind at (recorded (low16 w) (third w))) ys p
-  unfolding Stands behind Ran
-  record_behind outside h l = (h.0, ran_more xs p.from w l h.1)
-  record_behind (inside n rs) h l = (
-    h.0,
-    ran_more xs p.from w l h.1,
-    h.2,
-    h.3,
-    records_more p.from xs w h.1.0 ∙ ap (λ (ts : List Setting). ts ++ setting (low16 w) (third w) ∷ []) h.4,
-  )
-  record_behind lost h l = (h.0, ran_more xs p.from w l h.1)
-
-  module _ (from : r.from ≡ next) where
-    anew : Ran ys r.from
-    anew = ran_anew xs w r.from (e ∙ sym from)
-
-    pub closes_behind : (at : Place) (n : ℕ) → r.number ≡ 0 → Stands (behind at (closes n)) ys r
-    unfolding Stands behind
-    closes_behind outside n z = (z, anew)
-    closes_behind (inside m rs) n z = (z, anew)
-    closes_behind lost n z = (z, anew)
-
-    module _ (in_group : (p.number ≡ 0 → ⊥) → r.number ≡ 9) where
-      pub opens_behind : (at : Place) → Stands at xs p → (n : ℕ) → (1 ≤ n) × (n ≤ 8) → (p.number ≡ 0 → r.number ≡ n) → Stands (behind at (opens n)) ys r
-      unfolding Stands behind
-      opens_behind outside h n few out =
-          (out h.0, anew, few.0, few.1, ap as_records (drop_of_length-le ys {i = r.from} (omega (arith, length-append xs (w ∷ []), from))))
-      opens_behind (inside m rs) h n few out = (in_group (λ z. omega (arith, h.0, h.2)), anew)
-      opens_behind lost h n few out = (in_group (λ z. omega (arith, h.0)), anew)
-
-      pub neither_behind : (at : Place) → Stands at xs p → (c : Condition) → (p.number ≡ 0 → r.number ≡ 0) → Stands (behind at (neither c)) ys r
-      unfolding Stands behind
-      neither_behind outside h c out = (out h.0, anew)
-      neither_behind (inside m rs) h c out = (in_group (λ z. omega (arith, h.0, h.2)), anew)
-      neither_behind lost h c out = (in_group (λ z. omega (arith, h.0)), anew)
-
--- ---- what the cases that are left name
+-- and a slot counts for nothing that is no record and closes nothing
+pub nothing_counts : (at : Place) (w : Word) (s : Answer) → (s ≡ code.Record → ⊥) → ((n : ℕ) → s ≡ code.Closes n → ⊥)
+    → counted at (as_slot w s) ≡ []
+unfolding counted
+nothing_counts at w code.Record r c = absurd (r refl)
+nothing_counts outside w (code.Opens n) r c = refl
+nothing_counts (inside m rs) w (code.Opens n) r c = refl
+nothing_counts lost w (code.Opens n) r c = refl
+nothing_counts at w (code.Closes n) r c = absurd (c n refl)
+nothing_counts at w code.Blank r c = neither_counts at Blank
+nothing_counts at w code.HalfWritten r c = neither_counts at HalfWritten
+nothing_counts at w code.Spoiled r c = neither_counts at Spoiled
 
 pub neither_told : (w : Word) (s : Answer) → OneOf (3 ∷ 4 ∷ 5 ∷ []) (tag_of the_type s) → (c : Condition) × (as_slot w s ≡ neither c)
 neither_told w code.Record o = absurd (miss (3 ∷ 4 ∷ 5 ∷ []) 0 tt o)
@@ -142,77 +83,121 @@ neither_told w code.Blank o = (Blank, refl)
 neither_told w code.HalfWritten o = (HalfWritten, refl)
 neither_told w code.Spoiled o = (Spoiled, refl)
 
--- ---- whether a group is closed
+module _ (at : Place) (xs : List Word) (p : Code) (h : Stands at xs p) where
+  -- outside a group
+  module _ (is : p ≡ Outside) where
+    pub is_outside : at ≡ outside
+    is_outside =
+        by_kind (λ at p. p ≡ Outside → at ≡ outside) at xs p h (λ _. refl) (λ n rs number first g e. absurd cc) (λ e. absurd cc) is
 
-module _ (xs : List Word) (k n : ℕ) (p : Numbers) where
-  pub outside_not_closed : (at : Place) → Stands at xs p → p.number ≡ 0 → false ≡ is_closed at n
-  unfolding Stands is_closed
-  outside_not_closed outside h z = refl
-  outside_not_closed (inside m rs) h z = absurd (omega (arith, h.0, h.2))
-  outside_not_closed lost h z = refl
+    pub outside_counts : (a v : ℕ) → counted at (recorded a v) ≡ setting a v ∷ []
+    unfolding counted
+    outside_counts a v = rw is_outside refl
 
-  pub other_not_closed : (at : Place) → Stands at xs p → (p.number ≡ n → ⊥) → false ≡ is_closed at n
-  unfolding Stands is_closed
-  other_not_closed outside h z = refl
-  other_not_closed (inside m rs) h z = rw (ne_eqb n m (λ e. z (h.0 ∙ sym e)))
-  other_not_closed lost h z = refl
+    pub not_open : in_group at ≡ false
+    unfolding in_group
+    not_open = rw is_outside refl
 
-  pub closed_if : (at : Place) → Stands at xs p → length xs ≡ k → n ≤ 8 → (p.number ≡ 0 → ⊥) → p.number ≡ n → eqb (k - p.from) n ≡ is_closed at n
-  unfolding Stands is_closed
-  closed_if outside h l few z e = absurd (z h.0)
-  closed_if (inside m rs) h l few z e =
-      let same : n ≡ m = sym e ∙ h.0 in
-      let many : k - p.from ≡ length rs =
-      ap (λ (x : ℕ). x - p.from) (sym l) ∙ sym (length-drop p.from xs) ∙ sym (length-map (drop p.from xs) _) ∙ ap length h.4 in
-      rw (many, same, eq-eqb m m refl)
-  closed_if lost h l few z e = absurd (omega (arith, h.0))
+  -- in a group
+  module _ (is : p ≡ Outside → ⊥) where
+    pub inside_counts : (a v : ℕ) → counted at (recorded a v) ≡ []
+    unfolding counted
+    inside_counts a v =
+        by_kind (λ at p. (p ≡ Outside → ⊥) → counted at (recorded a v) ≡ []) at xs p h
+        (λ k. absurd (k refl)) (λ n rs number first g k. refl) (λ k. refl) is
 
--- by a group that is closed its records count, and by any other such mark nothing
-pub closed_counts : (at : Place) (xs : List Word) (p : Numbers) (m : ℕ) → Stands at xs p → is_closed at m ≡ true
-    → counted at (closes m) ≡ as_records (drop p.from xs)
-unfolding Stands is_closed counted closed
-closed_counts outside xs p m h c = not_both c refl
-closed_counts (inside n rs) xs p m h c = rw c (sym h.4)
-closed_counts lost xs p m h c = not_both c refl
+    pub is_open : in_group at ≡ true
+    unfolding in_group
+    is_open =
+        by_kind (λ at p. (p ≡ Outside → ⊥) → in_group at ≡ true) at xs p h
+        (λ k. absurd (k refl)) (λ n rs number first g k. refl) (λ k. refl) is
 
-pub unclosed_counts : (at : Place) (m : ℕ) → is_closed at m ≡ false → counted at (closes m) ≡ []
+  -- ---- one slot more
+
+  module _ (w : Word) where
+    abbrev ys : List Word
+    ys = xs ++ w ∷ []
+
+    pub record_behind : Stands (behind at (recorded (low16 w) (third w))) ys p
+    unfolding Stands behind
+    record_behind =
+        by_kind (λ at p. Stands (behind at (recorded (low16 w) (third w))) ys p) at xs p h tt
+        (λ n rs number first g. (
+          g.0,
+          omega (arith, g.1, length-append xs (w ∷ [])),
+          records_more first xs w g.1 ∙ ap (λ (ts : List Setting). ts ++ setting (low16 w) (third w) ∷ []) g.2,
+        ))
+        tt
+
+    pub closes_behind : (n : ℕ) → Stands (behind at (closes n)) ys Outside
+    unfolding Stands behind
+    closes_behind n = by_kind (λ at _. Stands (behind at (closes n)) ys Outside) at xs p h tt (λ n rs number first g. tt) tt
+
+    pub opens_behind : p ≡ Outside → (n next : ℕ) → length xs + 1 ≡ next → Stands (behind at (opens n)) ys (Inside n next)
+    unfolding Stands behind
+    opens_behind is n next e =
+        let l : length ys ≡ next = omega (arith, length-append xs (w ∷ [])) in
+        rw (is_outside is) (refl, omega arith, ap as_records (drop_of_length-le ys {i = next} (omega arith)))
+
+    pub neither_behind : p ≡ Outside → (c : Condition) → Stands (behind at (neither c)) ys Outside
+    unfolding Stands behind
+    neither_behind is c = rw (is_outside is) tt
+
+    pub lost_behind : (p ≡ Outside → ⊥) → (s : Answer) → (s ≡ code.Record → ⊥) → ((n : ℕ) → s ≡ code.Closes n → ⊥)
+        → Stands (behind at (as_slot w s)) ys Lost
+    unfolding Stands
+    lost_behind is s no_record no_close =
+        let l = loses w s no_record no_close in
+        by_kind (λ at p. (p ≡ Outside → ⊥) → Stands (behind at (as_slot w s)) ys Lost) at xs p h
+        (λ k. absurd (k refl)) (λ n rs number first g k. rw (l.0 n rs) tt) (λ k. rw l.1 tt) is
+
+-- ---- whether a mark in slot k closes a group by the number n
+
+-- by one that does not nothing counts
+pub unclosed_counts : (at : Place) (n : ℕ) → is_closed at n ≡ false → counted at (closes n) ≡ []
 unfolding is_closed counted closed
-unclosed_counts outside m h = refl
-unclosed_counts (inside n rs) m h = rw h
-unclosed_counts lost m h = refl
+unclosed_counts outside n h = refl
+unclosed_counts (inside m rs) n h = rw h refl
+unclosed_counts lost n h = refl
 
--- a group is open where the number is not 0
-pub stands_open : (at : Place) (xs : List Word) (p : Numbers) → Stands at xs p → not (eqb p.number 0) ≡ in_group at
-unfolding Stands in_group
-stands_open outside xs p h = rw h.0
-stands_open (inside n rs) xs p h = rw (h.0, ne_eqb n 0 (let l = h.2 in omega arith))
-stands_open lost xs p h = rw h.0
+module _ (at : Place) (xs : List Word) (p : Code) (h : Stands at xs p) (n : ℕ) where
+  pub no_group_closed : OneOf (0 ∷ 2 ∷ []) (tag_of place_type p) → is_closed at n ≡ false
+  unfolding is_closed
+  no_group_closed o =
+      by_kind (λ at p. OneOf (0 ∷ 2 ∷ []) (tag_of place_type p) → is_closed at n ≡ false) at xs p h
+      (λ o. refl) (λ m rs number first g o. absurd (miss (0 ∷ 2 ∷ []) 1 tt o)) (λ o. refl) o
 
--- ---- what counts by a slot that closes nothing
+  module _ (number first k : ℕ) (is : p ≡ Inside number first) (l : length xs ≡ k) where
+    of_group : (at : Place) → Stands at xs (Inside number first)
+        → (rs : List Setting) × (at ≡ inside number rs) × (first ≤ k) × (as_records (drop first xs) ≡ rs) × (length rs ≡ k - first)
+    unfolding Stands
+    of_group outside g = absurd g
+    of_group (inside m rs) g = (
+      rs,
+      ap (λ m. inside m rs) (sym g.0),
+      omega (arith, g.1),
+      g.2,
+      omega (arith, ap length g.2, length-map (drop first xs) (λ (w : Word). setting (low16 w) (third w)), length-drop first xs),
+    )
+    of_group lost g = absurd g
 
-pub inside_counts : (at : Place) (xs : List Word) (p : Numbers) → Stands at xs p → (p.number ≡ 0 → ⊥) → (a v : ℕ) → counted at (recorded a v) ≡ []
-unfolding Stands counted
-inside_counts outside xs p h n a v = absurd (n h.0)
-inside_counts (inside m rs) xs p h n a v = refl
-inside_counts lost xs p h n a v = refl
+    pub closes_rightly : number ≡ n → k - first ≡ n → (is_closed at n ≡ true) × (first ≤ k) × (counted at (closes n) ≡ as_records (drop first xs))
+    unfolding is_closed counted closed
+    closes_rightly same size =
+        let g = of_group at (rw is at h) in
+        let test : rightly_closed number n g.0 ≡ true = rw (g.4, size, eq-eqb n number (sym same)) refl in
+        rw g.1 (test, g.2, rw test (sym g.3))
 
-pub outside_counts : (at : Place) (xs : List Word) (p : Numbers) → Stands at xs p → p.number ≡ 0 → (a v : ℕ) → counted at (recorded a v) ≡ setting a v ∷ []
-unfolding counted
-outside_counts at xs p h z a v = rw (stands_outside at xs p h z)
-
-opens_counts : (at : Place) (n : ℕ) → counted at (opens n) ≡ []
-unfolding counted
-opens_counts outside n = refl
-opens_counts (inside m rs) n = refl
-opens_counts lost n = refl
-
-pub nothing_counts : (at : Place) (w : Word) (s : Answer) → OneOf (1 ∷ 3 ∷ 4 ∷ 5 ∷ []) (tag_of the_type s) → counted at (as_slot w s) ≡ []
-nothing_counts at w code.Record o = absurd (miss (1 ∷ 3 ∷ 4 ∷ 5 ∷ []) 0 tt o)
-nothing_counts at w (code.Opens n) o = opens_counts at n
-nothing_counts at w (code.Closes n) o = absurd (miss (1 ∷ 3 ∷ 4 ∷ 5 ∷ []) 2 tt o)
-nothing_counts at w code.Blank o = neither_counts at Blank
-nothing_counts at w code.HalfWritten o = neither_counts at HalfWritten
-nothing_counts at w code.Spoiled o = neither_counts at Spoiled
+    pub closes_wrongly : (number ≡ n → k - first ≡ n → ⊥) → is_closed at n ≡ false
+    unfolding is_closed
+    closes_wrongly differs =
+        let g = of_group at (rw is at h) in
+        rw (g.1, g.4) (by_cases (eqb n number && eqb (k - first) number)
+        (λ t.
+        let same = eqb-true n number (and_left (eqb n number) _ t) in
+        let size = eqb-true (k - first) number (and_right (eqb n number) _ t) in
+        absurd (differs (sym same) (size ∙ sym same)))
+        (λ t. t))
 
 -- ---- the slots of a list of bytes
 

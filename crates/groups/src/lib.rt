@@ -2,86 +2,51 @@
 
 #![tactic(auto)]
 
-ghost use Rattle.std.specs.Prelude.{◌≡◌, List, [], ◌∷◌, ◌++◌, ◌+◌, ◌≤◌, length};
-ghost use Rattle.rules.specs.Word.{Word};
-ghost use Rattle.rules.specs.Store.{Place as Standing, outside, behind};
+ghost use Rattle.std.specs.Prelude.{◌≡◌, List, [], ◌∷◌, ◌++◌, ◌+◌, ◌≤◌, length, drop, MatchOption, true, false};
+ghost use Rattle.rules.specs.Word.{Word, closes};
+ghost use Rattle.rules.specs.Store.{Place as Standing, behind, counted};
 ghost use Rattle.words.specs.Read.{as_slot};
-ghost use Rattle.groups.specs.Stands.{Stands, Proper, is_closed};
+ghost use Rattle.groups.specs.Stands.{Stands, as_records, is_closed};
 
 use words::Slot;
 
-// No group has these numbers: that of a slot outside a group, and that of one in a group that is lost.
-pub const NONE: usize = 0;
-
-const LOST: usize = 9;
-
-// The number of the group that a slot stands in; and a slot, from which on all before it are records: in a group that is not lost,
-// it is the first behind the mark that opened the group.
-#[derive(Clone, Copy)]
-pub struct Place {
-    pub number: usize,
-    pub from: usize,
+#[derive(Clone, Copy, PartialEq, Eq)]
+pub enum Place {
+    Outside,
+    // In a group of that number. From its first record on, all slots before this one are records.
+    Inside { number: u8, first: usize },
+    // Something else stands between its opening and this slot.
+    Lost,
 }
 
 impl Place {
-    fn at(number: usize, from: usize) -> Place
-        ensures { (result.number ≡ number) × (result.from ≡ from) }
-    {
-        Place { number, from }
-    }
-
-    // Where the first slot of a page stands.
-    pub fn outside() -> Place
-        ensures { Stands outside [] result }
-    {
-        Place::at(NONE, 0)
-    }
-
-    // Behind a slot that is no record and ends no group: what was in a group is lost.
-    fn lost(self, next: usize) -> Place
-        ensures { (self.number ≡ 0 → result.number ≡ 0) × ((self.number ≡ 0 → ⊥) → result.number ≡ 9) × (result.from ≡ next) }
-    {
-        if self.number == NONE {
-            return Place::at(NONE, next);
-        }
-        Place::at(LOST, next)
-    }
-
-    // Behind a mark that opens a group of n.
-    fn opened(self, n: u8, next: usize) -> Place
-        ensures { (self.number ≡ 0 → result.number ≡ n) × ((self.number ≡ 0 → ⊥) → result.number ≡ 9) × (result.from ≡ next) }
-    {
-        if self.number == NONE {
-            return Place::at(n as usize, next);
-        }
-        Place::at(LOST, next)
-    }
-
     // Where the next slot stands, behind one of that kind.
     pub fn behind(self, s: Slot, next: usize) -> Place
-        ensures { (at : Standing) (xs : List Word) (w : Word) → Stands at xs self → length xs + 1 ≡ next → Proper (as_slot w s)
+        ensures { (at : Standing) (xs : List Word) (w : Word) → Stands at xs self → length xs + 1 ≡ next
             → Stands (behind at (as_slot w s)) (xs ++ w ∷ []) result }
     {
-        match s {
-            Slot::Record => self,
-            Slot::Opens(n) => self.opened(n, next),
-            Slot::Closes(_) => Place::at(NONE, next),
-            _ => self.lost(next),
+        match (self, s) {
+            (_, Slot::Record) => self,
+            (_, Slot::Closes(_)) => Place::Outside,
+            (Place::Outside, Slot::Opens(number)) => Place::Inside {
+                number,
+                first: next,
+            },
+            (Place::Outside, _) => Place::Outside,
+            _ => Place::Lost,
         }
     }
 
-    // Whether a mark that closes n records, in slot k, makes those of the group count.
-    pub fn is_closed(self, n: u8, k: usize) -> bool
-        requires { self.from ≤ k }
-        ensures { (at : Standing) (xs : List Word) → Stands at xs self → length xs ≡ k → n ≤ 8 → result ≡ is_closed at n }
+    // The first record of the group that a mark in slot k closes by the number n, if its records count then: all slots from it on.
+    pub fn closed(self, n: u8, k: usize) -> Option<usize>
+        ensures { (at : Standing) (xs : List Word) → Stands at xs self → length xs ≡ k
+            → MatchOption result (is_closed at n ≡ false)
+            (λ first. (is_closed at n ≡ true) × (first ≤ k) × (counted at (closes n) ≡ as_records (drop first xs))) }
     {
-        if self.number == NONE {
-            return false;
+        match self {
+            Place::Inside { number, first }
+                if number == n && k.saturating_sub(first) == n as usize => Some(first),
+            _ => None,
         }
-        let is_another = self.number != n as usize;
-        if is_another {
-            return false;
-        }
-        k - self.from == n as usize
     }
 }

@@ -27,11 +27,11 @@ use Rattle.promise.specs.History.{recovery_of, write_of}
 use Rattle.promise.proofs.Answers.{each_map₂, each_owned}
 use Rattle.promise.proofs.Kept.{called_number, passed, kept}
 use Rattle.promise.proofs.Counts.{not_longer}
-use Rattle.reading.specs.declared.Reading.{Reading as Read}
-use Rattle.reading.specs.declared.Pairing.{Pairing as Pair}
-use Rattle.reading.specs.Answers.{as_reading, as_pairing}
-use Rattle.writing.specs.declared.Stepped.{Stepped as Done}
-use Rattle.writing.specs.Answers.{as_stepped}
+use Rattle.istrovell.specs.declared.answers.Reading.{Reading as Read}
+use Rattle.istrovell.specs.declared.answers.Pairing.{Pairing as Pair}
+use Rattle.istrovell.specs.Answers.{as_reading, as_pairing}
+use Rattle.istrovell.specs.declared.answers.Stepped.{Stepped as Done}
+use Rattle.istrovell.specs.Answers.{as_stepped}
 use Rattle.istrovell.specs.Demands.{Formats, Reads, Unchanged, Gives, Did, formatted, wrote, wrote_as, replies, all_naming}
 use Rattle.istrovell.specs.Demands.{every_call_answers_by_number}
 use Rattle.istrovell.specs.Demands.{only_one_outcome, every_step_follows_the_rules, a_store_keeps_its_word, every_question_is_answered}

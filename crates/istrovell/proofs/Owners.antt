@@ -4,7 +4,7 @@ use Rattle.rules.proofs.Named.{named_roomy}
 use Rattle.promise.specs.Calls.{value_at, blank_value_at}
 use Rattle.promise.specs.Owners.{reads, blank_reads}
 use Rattle.promise.proofs.Owners.{neither_crowds, neither_shows}
-use Rattle.reading.specs.Answers.{as_reading}
+use Rattle.istrovell.specs.Answers.{as_reading}
 use Rattle.istrovell.specs.Demands.{all_naming}
 use Rattle.istrovell.specs.Owners.{neither_owner_crowds_out_the_other, neither_owner_shows_in_the_others_reads}
 use Rattle.istrovell.proofs.Demands.{obey, same_reading}

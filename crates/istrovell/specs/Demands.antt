@@ -12,11 +12,11 @@ use Rattle.promise.specs.Calls.{Question, value_at, blank_value_at, pairing_code
 use Rattle.promise.specs.History.{recovery_of, write_of}
 use Rattle.promise.specs.Promise.{KeepsItsWord}
 use Rattle.promise.specs.Corollaries.{longest as longest_write}
-use Rattle.reading.specs.declared.Reading.{Reading}
-use Rattle.reading.specs.declared.Pairing.{Pairing}
-use Rattle.reading.specs.Answers.{as_reading, as_pairing}
-use Rattle.writing.specs.declared.Stepped.{Stepped}
-use Rattle.writing.specs.Answers.{as_stepped}
+use Rattle.istrovell.specs.declared.answers.Reading.{Reading}
+use Rattle.istrovell.specs.declared.answers.Pairing.{Pairing}
+use Rattle.istrovell.specs.Answers.{as_reading, as_pairing}
+use Rattle.istrovell.specs.declared.answers.Stepped.{Stepped}
+use Rattle.istrovell.specs.Answers.{as_stepped}
 
 -- What the contracts say: P is the page size that the call names, timer which of the two owners, i the image at the call, r the answer,
 -- j the image after it. A read leaves the image.

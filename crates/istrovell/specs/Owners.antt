@@ -8,7 +8,7 @@ use Rattle.rules.specs.Named.{chip_of}
 use Rattle.promise.specs.Calls.{Image}
 use Rattle.promise.specs.History.{InUse}
 use Rattle.promise.specs.Owners.{NeitherOver128, NeitherCrowds, AgreeOn, Run}
-use Rattle.reading.specs.declared.Reading.{Reading}
+use Rattle.istrovell.specs.declared.answers.Reading.{Reading}
 use Rattle.istrovell.specs.Demands.{Reads, BlankReads, all_naming}
 
 -- D5. Neither owner crowds out the other. Where neither holds more than 128, neither ever does, over any sequence of both programs'

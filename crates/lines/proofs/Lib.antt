@@ -1,5 +1,4 @@
 -- Laws of the code's own, for its proofs and for the crates below.
-pub mod Appending
 pub mod Decimal
 pub mod Lines
 pub mod Told

@@ -1,48 +1,35 @@
--- The lines of the listing, one after the other. Assumes nothing.
-use Prim.Native.Nat.{ℕ, ◌+◌, ◌*◌, ◌≤◌, ◌<◌}
-use mathlib.Core.Path.{◌≡◌, refl, ap, ◌∙◌}
-use mathlib.Core.List.{List, [], ◌∷◌, ◌++◌, append-nil}
+-- The lines of the settings, one after the other. Assumes nothing.
+use Prim.Native.Nat.{ℕ, ◌+◌, ◌<◌}
+use mathlib.Core.Path.{◌≡◌, refl, sym, ap, ◌∙◌}
+use mathlib.Core.List.{List, [], ◌∷◌, ◌++◌, map, map-append, append-nil}
 use native.Mathlib.Numerals.{add-one}
-use native.Mathlib.Omega.{arith}
-use lib.ListN.{length, get_or, take, length-append}
-use lib.Seq.{take-suc, take_all}
-use Rattle.rules.specs.Store.{Setting, setting, each}
+use lib.ListN.{length, get_or, take}
+use lib.Seq.{take-suc}
+use Rattle.std.proofs.Common.{append_assoc}
+use Rattle.rules.specs.Store.{each}
 use Rattle.rules.specs.Listing.{setting_line, setting_lines}
 use Rattle.rules.proofs.Stores.{each_append}
-use Rattle.settings.specs.Held.{Holds}
-use Rattle.settings.proofs.Tables.{setting_at, held_few, held_length}
-use Rattle.lines.proofs.Decimal.{decimal_length}
+use Rattle.settings.specs.declared.Setting.{Setting}
+use Rattle.settings.specs.Held.{as_setting}
 
--- ---- the lines of the settings
-
-pub setting_line_length : (s : Setting) → length (setting_line s) ≤ 18
-unfolding setting_line
-setting_line_length (setting a v) = simp length-append (omega (arith, decimal_length a, decimal_length v))
-
-pub lines_length : (t : List Setting) → length (setting_lines t) ≤ length t * 18
+pub no_line : (text : List ℕ) → text ≡ text ++ setting_lines []
 unfolding setting_lines each
-lines_length [] = omega arith
-lines_length (s ∷ t) = omega (arith, length-append (setting_line s) (setting_lines t), setting_line_length s, lines_length t)
+no_line text = sym (append-nil text)
 
-module _ {xs ys : List ℕ} {held : ℕ} {t : List Setting} (h : Holds xs ys held t) (few : held ≤ 192) where
-  -- the line of the next setting, out of the arrays
-  pub next_line : (i : ℕ) → i < held → setting_lines (take (i + 1) t) ≡ setting_lines (take i t) ++ setting_line (setting (get_or xs i 0) (get_or ys i 0))
+module _ (text : List ℕ) (settings : List Setting) where
+  -- a text with the lines of the first k behind it
+  abbrev pub with_lines : ℕ → List ℕ
+  with_lines k = text ++ setting_lines (map as_setting (take k settings))
+
+  -- the line of the next one
+  pub next_line : (k : ℕ) (d : Setting) → k < length settings → with_lines (k + 1) ≡ with_lines k ++ setting_line (as_setting (get_or settings k d))
   unfolding setting_lines each
-  next_line i l =
-      let n = held_few h few in
-      let e = held_length h few in
-      let in_table : i < length t = omega arith in
-      let split : take (i + 1) t ≡ take i t ++ (get_or t i (setting 0 0) ∷ []) = rw (add-one, take-suc t i (setting 0 0)) in
-      let is : get_or t i (setting 0 0) ≡ setting (get_or xs i 0) (get_or ys i 0) = rw (h.few_addresses n, h.few_values n)
-      (setting_at t i (setting 0 0) in_table) in
-      ap setting_lines split
-      ∙ each_append setting_line (take i t) (get_or t i (setting 0 0) ∷ [])
-      ∙ ap (λ (s : Setting). setting_lines (take i t) ++ (setting_line s ++ [])) is
-      ∙ ap (λ (l : List ℕ). setting_lines (take i t) ++ l) (append-nil (setting_line (setting (get_or xs i 0) (get_or ys i 0))))
-
-  pub all_lines : (i : ℕ) → held ≤ i → take i t ≡ t
-  all_lines i l = let e = held_length h few in take_all i t (omega arith)
-
-pub no_lines : setting_lines [] ≡ []
-unfolding setting_lines each
-no_lines = refl
+  next_line k d l =
+      let one = get_or settings k d in
+      let lines = setting_lines (map as_setting (take k settings)) in
+      let split : take (k + 1) settings ≡ take k settings ++ one ∷ [] = rw (add-one, take-suc settings k d l) refl in
+      ap (λ xs. text ++ setting_lines (map as_setting xs)) split
+      ∙ ap (λ rs. text ++ setting_lines rs) (map-append as_setting (take k settings) (one ∷ []))
+      ∙ ap (λ line. text ++ line) (each_append setting_line (map as_setting (take k settings)) (as_setting one ∷ []))
+      ∙ ap (λ line. text ++ (lines ++ line)) (append-nil (setting_line (as_setting one)))
+      ∙ sym (append_assoc text lines (setting_line (as_setting one)))

@@ -1,2 +1,2 @@
 -- Definitions that the contracts of this crate cite.
-pub mod Appended
+pub mod Told

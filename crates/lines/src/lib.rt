@@ -1,174 +1,113 @@
-// The listing of a store: its text, written into a buffer that is lent. Each function appends at a place and gives the place
-// behind what it wrote.
+// The listing of a store, as a text in a buffer of its own. Not by `write!`: no clause of `fmt` says that a write for which there is
+// room succeeds, and the listing promises its text for every image.
 
 #![tactic(auto)]
 
-ghost use Rattle.std.specs.Prelude.{List, [], ◌∷◌, ◌++◌, ◌+◌, ◌*◌, ◌≤◌, ◌<◌, length};
-ghost use Rattle.rules.specs.Store.{Setting, setting};
+ghost use Rattle.std.specs.Prelude.{◌≡◌, map, ◌++◌, ◌+◌, ◌*◌, ◌≤◌, ◌<◌, length};
+ghost use Rattle.arrayvec.specs.ArrayString.{array_string_len};
 ghost use Rattle.rules.specs.Listing.{decimal, text_refused, line_end, setting_line, setting_lines, listing};
-ghost use Rattle.pages.specs.Read.{as_form, Lawful};
-ghost use Rattle.settings.specs.Held.{Holds};
-ghost use Rattle.lines.specs.Appended.{Appends, Written, pages_part, order_part, broken_part, told_line};
+ghost use Rattle.pages.specs.Read.{as_form};
+ghost use Rattle.settings.specs.Held.{as_setting};
+ghost use Rattle.survey.specs.Refusals.{number_of};
+ghost use Rattle.lines.specs.Told.{told_line};
 
+use arrayvec::ArrayString;
 use broken::Broken;
+use itoa::{Buffer, Integer};
 use pages::Form;
-use settings::{HELD_MAX, NO_ADDRESS, NO_VALUE};
-use survey::OK;
+use settings::{HELD_MAX, Setting, Table};
+use survey::{Look, Refusal};
 
-fn put_byte(out: &mut [u8], at: usize, byte: u8) -> usize
-    requires { at < length out.old }
-    ensures { Appends out.old at (byte ∷ []) out.new result }
-{
-    out[at] = byte;
-    at + 1
-}
+// The most bytes of line one, and of the line of a setting, by the types of their numbers.
+const FIRST_MAX: usize = 180;
 
-fn put_text(out: &mut [u8], at: usize, text: &[u8]) -> usize
-    requires { at + length text.now ≤ length out.old }
-    ensures { Appends out.old at text.now out.new result }
-{
-    let mut i = 0;
-    while i < text.len() {
-        out[at + i] = text[i];
-        i += 1;
-    }
-    at + i
-}
+const LINE_MAX: usize = 10;
 
-// A number in decimal digits: those of its tenth, then its last one.
-fn put_number(out: &mut [u8], at: usize, n: u32) -> usize
-    requires { (n < 100000000) × (at + 8 ≤ length out.old) }
-    ensures { Appends out.old at (decimal n) out.new result }
-{
-    if n < 10 {
-        return put_byte(out, at, 48 + n as u8);
-    }
-    let next = put_number(out, at, n / 10);
-    put_byte(out, next, 48 + (n % 10) as u8)
-}
+// The most bytes of a listing.
+pub const LISTING_MAX: usize = FIRST_MAX + HELD_MAX * LINE_MAX;
 
-// A text and a number behind it.
-fn put_field(out: &mut [u8], at: usize, text: &[u8], n: u32) -> usize
-    requires { (n < 100000000) × (at + length text.now + 8 ≤ length out.old) }
-    ensures { Appends out.old at (text.now ++ decimal n) out.new result }
-{
-    let next = put_text(out, at, text);
-    put_number(out, next, n)
-}
+pub type Text = ArrayString<LISTING_MAX>;
 
-// The line of one setting.
-fn put_setting(out: &mut [u8], at: usize, address: u16, value: u8) -> usize
-    requires { at + 18 ≤ length out.old }
-    ensures { Appends out.old at (setting_line (setting address value)) out.new result }
-{
-    let behind_address = put_number(out, at, address as u32);
-    let behind_value = put_field(out, behind_address, b" ", value as u32);
-    put_byte(out, behind_value, 10)
-}
+const LINE_END: &str = "\n";
 
-// The lines of the settings, in the arrays' order.
-fn put_settings<'a>(
-    out: &mut [u8],
-    at: usize,
-    addresses: &'a [u16; HELD_MAX],
-    values: &'a [u8; HELD_MAX],
-    held: usize,
-) -> usize
-    requires { (held ≤ 192) × (at + held * 18 ≤ length out.old) }
-    ensures { (t : List Setting) → Holds addresses.now values.now held t
-        → Appends out.old at (setting_lines t) out.new result }
+// A word, and a number behind it in decimal digits.
+fn push_field<I: Integer>(text: &mut Text, word: &str, number: I)
+    requires { array_string_len text.old + length word.now + I.MAX_STR_LEN ≤ LISTING_MAX }
+    ensures bytes { text.new.bytes ≡ text.old.bytes ++ word.now ++ I.text number }
+    ensures len { array_string_len text.new ≤ array_string_len text.old + length word.now + I.MAX_STR_LEN }
 {
-    let mut end = at;
-    let mut i = 0;
-    while i < held {
-        end = put_setting(out, end, addresses[i], values[i]);
-        i += 1;
-    }
-    end
-}
-
-// The first three numbers of line one.
-fn put_pages(out: &mut [u8], at: usize, count: u32, used: u32, cleared: u32) -> usize
-    requires count_bound { (count < 100000000) × (used < 100000000) × (cleared < 100000000) }
-    requires at_in_bounds { at + 45 ≤ length out.old }
-    ensures { Appends out.old at (pages_part count used cleared) out.new result }
-{
-    let behind_count = put_field(out, at, b"pages ", count);
-    let behind_used = put_field(out, behind_count, b" used ", used);
-    put_field(out, behind_used, b" cleared ", cleared)
-}
-
-// The next two.
-fn put_order(out: &mut [u8], at: usize, order: u32, held: u32) -> usize
-    requires { (order < 100000000) × (held < 100000000) × (at + 29 ≤ length out.old) }
-    ensures { Appends out.old at (order_part order held) out.new result }
-{
-    let behind_order = put_field(out, at, b" order ", order);
-    put_field(out, behind_order, b" held ", held)
-}
-
-// The last two, and the line's end.
-fn put_broken(out: &mut [u8], at: usize, half: u32, spoiled: u32) -> usize
-    requires { (half < 100000000) × (spoiled < 100000000) × (at + 32 ≤ length out.old) }
-    ensures { Appends out.old at (broken_part half spoiled) out.new result }
-{
-    let behind_half = put_field(out, at, b" half ", half);
-    let behind_spoiled = put_field(out, behind_half, b" spoiled ", spoiled);
-    put_byte(out, behind_spoiled, 10)
+    text.push_str(word);
+    let mut digits = Buffer::new();
+    text.push_str(digits.format(number));
 }
 
 // Line one.
-fn put_first(
-    out: &mut [u8],
-    count: usize,
-    used: usize,
-    cleared: usize,
-    order: u32,
-    held: usize,
-    broken: Broken,
-) -> usize
-    requires count_bound { (count ≤ 32) × (used ≤ 32) × (cleared ≤ 32) × (order < 4194304) × (held ≤ 192) × (broken.half + broken.spoiled ≤ 16288) }
-    requires in_bounds { 106 ≤ length out.old }
-    ensures { Appends out.old 0 (told_line count used cleared order held broken.half broken.spoiled) out.new result }
+#[tactic(auto, using(crate::proofs::Decimal::decimal_is), unfolding(crate::specs::Told::told_line))]
+fn first_line(look: &Look, held: usize, broken: Broken) -> Text
+    requires pages { (look.now.count ≤ 32) × (length look.now.line.items ≤ 32) × (look.now.cleared ≤ 32) × (look.now.order < 4194304) }
+    requires slots { (held ≤ 192) × (broken.half + broken.spoiled ≤ 16288) }
+    ensures bytes { result.bytes ≡ told_line look.now held broken }
+    ensures len { array_string_len result ≤ FIRST_MAX }
 {
-    let behind_pages = put_pages(out, 0, count as u32, used as u32, cleared as u32);
-    let behind_held = put_order(out, behind_pages, order, held as u32);
-    put_broken(out, behind_held, broken.half as u32, broken.spoiled as u32)
+    let mut text = Text::new();
+    push_field(&mut text, "pages ", look.count);
+    push_field(&mut text, " used ", look.line.len());
+    push_field(&mut text, " cleared ", look.cleared);
+    push_field(&mut text, " order ", look.order);
+    push_field(&mut text, " held ", held);
+    push_field(&mut text, " half ", broken.half);
+    push_field(&mut text, " spoiled ", broken.spoiled);
+    text.push_str(LINE_END);
+    text
+}
+
+// The line of one setting.
+#[tactic(auto, using(crate::proofs::Decimal::decimal_is, std::proofs::Common::append_assoc), unfolding(rules::specs::Listing::setting_line))]
+fn push_setting(text: &mut Text, setting: Setting)
+    requires { array_string_len text.old + LINE_MAX ≤ LISTING_MAX }
+    ensures bytes { text.new.bytes ≡ text.old.bytes ++ setting_line (as_setting setting) }
+    ensures len { array_string_len text.new ≤ array_string_len text.old + LINE_MAX }
+{
+    push_field(text, "", setting.address);
+    push_field(text, " ", setting.value);
+    text.push_str(LINE_END);
+}
+
+// The lines of the settings, in their order.
+#[tactic(auto, using(crate::proofs::Lines::no_line, crate::proofs::Lines::next_line))]
+fn push_settings(text: &mut Text, settings: &[Setting])
+    requires { (length settings.now ≤ 192) × (array_string_len text.old + length settings.now * LINE_MAX ≤ LISTING_MAX) }
+    ensures { text.new.bytes ≡ text.old.bytes ++ setting_lines (map as_setting settings.now) }
+{
+    for setting in settings {
+        push_setting(text, *setting);
+    }
 }
 
 // The line of a refusal.
-fn put_refused(out: &mut [u8], number: u8) -> usize
-    requires { 17 ≤ length out.old }
-    ensures { Appends out.old 0 (text_refused ++ decimal number ++ line_end) out.new result }
+#[tactic(auto, using(crate::proofs::Decimal::decimal_is))]
+fn refused(refusal: Refusal) -> Text
+    ensures { result.bytes ≡ text_refused ++ decimal (number_of refusal) ++ line_end }
 {
-    let at = put_field(out, 0, b"refused ", number as u32);
-    put_byte(out, at, 10)
+    let mut text = Text::new();
+    push_field(&mut text, "refused ", refusal.number());
+    text.push_str(LINE_END);
+    text
 }
 
-// The listing of an image of any length and content: its length, and its bytes at the start of the buffer. What lies behind
-// them stays.
-pub fn list(image: &[u8], form: Form, out: &mut [u8]) -> usize
-    requires { Lawful form × (4096 ≤ length out.old) }
-    ensures { Written out.old (listing (as_form form) image.now) out.new result }
+// The listing of an image of any length and content.
+#[tactic(auto, using(crate::proofs::Told::listed, crate::proofs::Told::not_listed, store::proofs::Values::pages_told, survey::proofs::Looking::told_few))]
+pub fn list(image: &[u8], form: Form) -> Text
+    ensures { result.bytes ≡ listing (as_form form) image.now }
 {
-    let mut addresses = [NO_ADDRESS; HELD_MAX];
-    let mut values = [NO_VALUE; HELD_MAX];
-    let store = store::open(image, form, &mut addresses, &mut values);
-    let number = store.number;
-    let is_refused = number != OK;
-    if is_refused {
-        return put_refused(out, number);
+    let mut table = Table::new();
+    match store::open(image, form, &mut table) {
+        Ok(store) => {
+            let broken = broken::count(image, form, &store.look);
+            let mut text = first_line(&store.look, table.len(), broken);
+            push_settings(&mut text, table.as_slice());
+            text
+        }
+        Err(refusal) => refused(refusal),
     }
-    let look = store.look;
-    let broken = broken::count(image, form, look);
-    let at = put_first(
-        out,
-        look.count,
-        look.used,
-        look.cleared,
-        look.order,
-        store.held,
-        broken,
-    );
-    put_settings(out, at, &addresses, &values, store.held)
 }

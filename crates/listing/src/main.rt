@@ -2,12 +2,12 @@
 
 #![tactic(auto)]
 
-ghost use Rattle.std.specs.Prelude.{◌≤◌, length};
+ghost use Rattle.std.specs.Prelude.{◌≡◌};
 ghost use Rattle.rules.specs.Call.{form_of};
 ghost use Rattle.rules.specs.Listing.{listing};
 ghost use Rattle.rules.specs.Named.{smaller_chip};
-ghost use Rattle.lines.specs.Appended.{Written};
 
+use lines::Text;
 use pages::SMALLER;
 
 // The numbers by which the operating system knows a program's input and output.
@@ -16,19 +16,17 @@ const STDIN_FILENO: i32 = 0;
 const STDOUT_FILENO: i32 = 1;
 
 // The listing of an image with pages of 1,024 bytes, read by its own edition (P10).
-fn list(image: &[u8], out: &mut [u8]) -> usize
-    requires { 4096 ≤ length out.old }
-    ensures { Written out.old (listing (form_of smaller_chip image.now) image.now) out.new result }
+fn list(image: &[u8]) -> Text
+    ensures { result.bytes ≡ listing (form_of smaller_chip image.now) image.now }
 {
     let form = survey::form_of(image, SMALLER);
-    lines::list(image, form, out)
+    lines::list(image, form)
 }
 
 fn main() {
     // One byte more than 32 pages: a longer input fills it, and is refused as one that is not whole pages.
     let mut bytes = [0u8; 32769];
     let n = io::read_full(STDIN_FILENO, &mut bytes);
-    let mut out = io::buffer();
-    let end = list(&bytes[..n], &mut out);
-    io::write_all(STDOUT_FILENO, &out[..end]);
+    let text = list(&bytes[..n]);
+    io::write_all(STDOUT_FILENO, text.as_bytes());
 }

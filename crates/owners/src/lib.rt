@@ -2,24 +2,43 @@
 
 #![tactic(auto)]
 
-ghost use Rattle.std.specs.Prelude.{◌≡◌, Bool};
+ghost use Rattle.std.specs.Prelude.{◌≡◌};
 ghost use Rattle.rules.specs.Owner.{named_owner};
+ghost use Rattle.owners.specs.Read.{as_owner};
 
 // The first address of the timer's; those before it are the handset's.
 pub const TIMER_FIRST: u16 = 32768;
 
-pub fn owns(timer: bool, address: u16) -> bool
-    ensures { result ≡ (named_owner timer).owns address }
-{
-    if timer {
-        return TIMER_FIRST <= address;
-    }
-    address < TIMER_FIRST
+#[derive(Clone, Copy, Debug, PartialEq, Eq)]
+pub enum Owner {
+    Handset,
+    Timer,
 }
 
-// How many addresses either may come to hold.
-pub fn most() -> usize
-    ensures { (timer : Bool) → result ≡ (named_owner timer).most }
-{
-    128
+// A caller says whether it is the timer.
+impl From<bool> for Owner {
+    fn from(timer: bool) -> Owner
+        ensures { as_owner result ≡ named_owner timer }
+    {
+        if timer { Owner::Timer } else { Owner::Handset }
+    }
+}
+
+impl Owner {
+    #[tactic(auto, using(rules::proofs::Owners::timer_owns, rules::proofs::Owners::handset_owns))]
+    pub fn owns(self, address: u16) -> bool
+        ensures { result ≡ (as_owner self).owns address }
+    {
+        match self {
+            Owner::Handset => address < TIMER_FIRST,
+            Owner::Timer => TIMER_FIRST <= address,
+        }
+    }
+
+    // How many addresses it may come to hold.
+    pub fn most(self) -> usize
+        ensures { result ≡ (as_owner self).most }
+    {
+        128
+    }
 }

@@ -1,12 +1,14 @@
 -- What a page is by its header words, read at their offsets: the rules' wear and state, test by test. Assumes nothing.
-use Prim.Native.Nat.{ℕ, ◌≤◌, ◌<◌}
+use Prim.Native.Nat.{ℕ, ◌≤◌}
 use mathlib.Core.Path.{◌≡◌, refl, sym, ap, ◌∙◌}
 use mathlib.Core.Bool.{Bool, true, false, cond, ◌&&◌, ◌||◌}
 use mathlib.Core.List.{List}
-use mathlib.Core.Option.{none, some}
+use mathlib.Core.Option.{Option, none, some}
 use native.Mathlib.Omega.{arith}
 use lib.ListN.{length, drop}
-use borrow.Author.Tests.{eq-eqb, le-leb, lt-leb}
+use borrow.Author.Tests.{eq-eqb}
+use Rattle.std.specs.Bool.{then_some}
+use Rattle.pages.specs.Read.{as_option}
 use Rattle.rules.specs.Word.{Word, words, sound, low16, third}
 use Rattle.rules.specs.Page.{wear_part, opening_part, done_part, slots, is_wear, wear_in, is_opening, order_in, is_done, all_blank, cleared, open₁}
 use Rattle.rules.specs.Page.{Chip, open₂, receiving, bad, state_after_wear, state_by, state}
@@ -38,14 +40,21 @@ slots_at s = drop_words 3 s
 
 -- ---- by the wear word
 
-module _ (edition : ℕ) (s : List ℕ) (h : 4 ≤ length s) {w : Word} (e : w ≡ word_in s 0) where
-  pub wear_absent : is_wear edition w ≡ false → wear_in edition (words s) ≡ none
-  unfolding wear_in
-  wear_absent t = rw (wear_at s h, ← e, t)
+-- a number, if a test says so
+pub option_then : (b : Bool) (n : ℕ) → as_option (then_some b n) ≡ cond b (some n) none
+option_then true n = refl
+option_then false n = refl
 
-  pub wear_present : is_wear edition w ≡ true → wear_in edition (words s) ≡ some (low16 w)
+module _ (edition : ℕ) (s : List ℕ) (h : 4 ≤ length s) {w : Word} (e : w ≡ word_in s 0) where
+  pub wear_is : wear_in edition (words s) ≡ cond (is_wear edition w) (some (low16 w)) none
   unfolding wear_in
-  wear_present t = rw (wear_at s h, ← e, t)
+  wear_is = rw (wear_at s h, ← e)
+
+  wear_absent : is_wear edition w ≡ false → wear_in edition (words s) ≡ none
+  wear_absent t = rw (wear_is, t)
+
+  wear_present : is_wear edition w ≡ true → wear_in edition (words s) ≡ some (low16 w)
+  wear_present t = rw (wear_is, t)
 
   pub no_wear : is_wear edition w ≡ false → state edition (words s) ≡ bad
   unfolding state state_by
@@ -83,7 +92,7 @@ module _ (s : List ℕ) (wear : ℕ) (h : 12 ≤ length s) {w : Word} (e : w ≡
 
 module _ (s : List ℕ) (h : 12 ≤ length s) (w : Word) (e : w ≡ wear_part (words s)) where
   -- what makes it open
-  itself_is : (o : Word) → o ≡ word_in s 4 → (d : Word) → d ≡ word_in s 8
+  pub itself_is : (o : Word) → o ≡ word_in s 4 → (d : Word) → d ≡ word_in s 8
       → is_open (state (third w) (words s)) ≡ (sound w && (is_opening 1 o || (is_opening 2 o && is_done (order_in o) d)))
   unfolding is_wear
   itself_is o p d q =
@@ -107,8 +116,8 @@ module _ (s : List ℕ) (h : 12 ≤ length s) (w : Word) (e : w ≡ wear_part (w
 
 -- the edition of a page that is open by itself
 module _ (c : Chip) (s : List ℕ) (h : 12 ≤ length s) (w : Word) (e : w ≡ word_in s 0) where
-  abbrev pub own : ℕ
-  own = cond (opens_itself c (words s)) (own_edition (words s)) 0
+  abbrev pub own : Option ℕ
+  own = cond (opens_itself c (words s)) (some (own_edition (words s))) none
 
   pub first_word : w ≡ wear_part (words s)
   first_word = e ∙ sym (wear_at s (omega arith))
@@ -117,19 +126,15 @@ module _ (c : Chip) (s : List ℕ) (h : 12 ≤ length s) (w : Word) (e : w ≡ w
   unfolding own_edition
   its_edition = ap third (sym first_word)
 
-  pub own_below : third w < c.first → 0 ≡ own
-  unfolding opens_itself has_edition
-  own_below l = rw (its_edition, lt-leb c.first (third w) l)
+  pub own_other : has_edition c (third w) ≡ false → none ≡ own
+  unfolding opens_itself
+  own_other f = rw (its_edition, f)
 
-  pub own_above : c.first ≤ third w → c.last < third w → 0 ≡ own
-  unfolding opens_itself has_edition
-  own_above l m = rw (its_edition, le-leb c.first (third w) l, lt-leb (third w) c.last m)
+  module _ (t : has_edition c (third w) ≡ true) where
+    pub own_open : is_open (state (third w) (words s)) ≡ true → some (third w) ≡ own
+    unfolding opens_itself
+    own_open u = rw (its_edition, t, u)
 
-  module _ (l : c.first ≤ third w) (m : third w ≤ c.last) where
-    pub own_open : is_open (state (third w) (words s)) ≡ true → third w ≡ own
-    unfolding opens_itself has_edition
-    own_open t = rw (its_edition, le-leb c.first (third w) l, le-leb (third w) c.last m, t)
-
-    pub own_closed : is_open (state (third w) (words s)) ≡ false → 0 ≡ own
-    unfolding opens_itself has_edition
-    own_closed t = rw (its_edition, le-leb c.first (third w) l, le-leb (third w) c.last m, t)
+    pub own_closed : is_open (state (third w) (words s)) ≡ false → none ≡ own
+    unfolding opens_itself
+    own_closed u = rw (its_edition, t, u)

@@ -2,7 +2,8 @@
 use Prim.Native.Nat.{ℕ, zero, suc, ◌+◌, ◌-◌, ◌*◌, ◌/◌, ◌≤◌, ◌<◌}
 use mathlib.Core.Path.{◌≡◌, refl, sym, ap, ◌∙◌}
 use mathlib.Core.Bool.{Bool, true, false}
-use mathlib.Core.List.{List, [], ◌∷◌}
+use mathlib.Core.List.{List, [], ◌∷◌, map}
+use Rattle.std.specs.List.{list_all}
 use native.Mathlib.Omega.{arith}
 use lib.ListN.{length, length-drop, get_or, take, drop}
 use lib.Seq.{drop-drop}
@@ -38,18 +39,11 @@ words_from at s h =
     let z : at + 0 ≡ at = omega arith in
     first_word (drop at s) l ∙ rw (word_in_drop, z, drop-drop)
 
--- whether all are blank, by the word that is met
-pub blank_on : (at : ℕ) (s : List ℕ) → at + 4 ≤ length s → blank (word_in s at) ≡ true → all_blank (words (drop at s)) ≡ all_blank (words (drop (at + 4) s))
+-- whether all are blank, of words as the code has them
+pub all_blank_is : (bs : List (List ℕ)) → list_all (λ b. blank (word_in b 0)) bs ≡ all_blank (map (λ b. word_in b 0) bs)
 unfolding all_blank
-blank_on at s h b = rw (words_from at s h, b)
-
-pub blank_off : (at : ℕ) (s : List ℕ) → at + 4 ≤ length s → blank (word_in s at) ≡ false → all_blank (words (drop at s)) ≡ false
-unfolding all_blank
-blank_off at s h b = rw (words_from at s h, b)
-
-pub blank_end : (at : ℕ) (s : List ℕ) → length s < at + 4 → all_blank (words (drop at s)) ≡ true
-unfolding all_blank
-blank_end at s h = let l : length (drop at s) < 4 = rw length-drop (omega arith) in rw (no_words (drop at s) l)
+all_blank_is [] = refl
+all_blank_is (b ∷ bs) = rw (all_blank_is bs)
 
 -- ---- from the back
 

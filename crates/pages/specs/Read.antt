@@ -1,12 +1,11 @@
 -- What the code's states and forms are in the rules' terms.
-use Rattle.std.specs.Prelude.{◌≤◌}
+use Rattle.std.specs.Prelude.{ℕ, ◌≤◌}
+use Rattle.std.specs.Prelude.{Option as Optional, None, Some}
 use Rattle.std.proofs.Math.Option.{Option, none, some}
 use Rattle.rules.specs.Page.{Form, Chip, State, cleared, open₁, open₂, receiving, bad}
 use Rattle.rules.specs.Call.{Roomy, RoomyChip}
-use Rattle.pages.specs.declared.Form.{Form as Numbers}
-use Rattle.pages.specs.declared.Chip.{Chip as ChipNumbers}
-use Rattle.pages.specs.declared.Named.{Named}
-use Rattle.pages.specs.declared.Named.TheVariants.{Chip as NamedChip, Nothing}
+use Rattle.pages.specs.declared.form.Form.{Form as Numbers}
+use Rattle.pages.specs.declared.form.Chip.{Chip as ChipNumbers}
 use Rattle.pages.specs.declared.State.{State as Answer}
 use Rattle.pages.specs.declared.State.TheVariants.{Cleared, Open1, Open2, Receiving, Bad}
 
@@ -33,11 +32,12 @@ as_chip c = record { slot_count = c.slots; first = c.first; last = c.last }
 abbrev pub LawfulChip : ChipNumbers → Type 0
 LawfulChip c = RoomyChip (as_chip c) × (c.slots ≤ 509) × (1 ≤ c.first)
 
--- the chip that a page size names
-abbrev pub as_named : Named → Option Chip
-as_named (NamedChip c) = some (as_chip c)
-as_named Nothing = none
+-- a number, if there is one
+abbrev pub as_option : Optional ℕ → Option ℕ
+as_option None = none
+as_option (Some n) = some n
 
-abbrev pub LawfulNamed : Named → Type 0
-LawfulNamed (NamedChip c) = LawfulChip c
-LawfulNamed Nothing = Unit {0}
+-- the chip that a page size names
+abbrev pub as_named : Optional ChipNumbers → Option Chip
+as_named None = none
+as_named (Some c) = some (as_chip c)

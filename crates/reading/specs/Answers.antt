@@ -1,18 +1,16 @@
--- The rules' answers, for the structs of the code.
-use Rattle.std.specs.Prelude.{ℕ, [], ◌∷◌}
-use Rattle.std.proofs.Math.Option.{Option}
-use Rattle.rules.specs.Call.{Reading, Pairing, is_held, blank_value}
-use Rattle.reading.specs.declared.Reading.{Reading as Read}
-use Rattle.reading.specs.declared.Pairing.{Pairing as Pair}
-use Rattle.reading.specs.declared.Digit.{Digit}
+-- The rules' answers, for the results of the code.
+use Rattle.std.specs.Prelude.{ℕ, List, map, Option, Result, Ok, Err}
+use Rattle.rules.specs.Call.{Reading, Pairing, refused_reading, refused_lookup, pairing, OK}
+use Rattle.survey.specs.declared.refusal.Refusal.{Refusal}
+use Rattle.survey.specs.Refusals.{number_of}
+use Rattle.settings.specs.Held.{as_option}
 
-abbrev pub as_reading : Read → Reading
-as_reading r = record { number = r.number; value = r.value }
+-- the value that is read, or the refusal
+abbrev pub as_reading : Result ℕ Refusal → Reading
+as_reading (Ok v) = record { number = OK; value = v }
+as_reading (Err e) = refused_reading (number_of e)
 
-abbrev pub as_pairing : Pair → Pairing
-as_pairing r =
-    record { number = r.number; paired = r.paired; digits = r.digit0 ∷ r.digit1 ∷ r.digit2 ∷ r.digit3 ∷ [] }
-
--- the digit that an optional value is
-abbrev pub digit_of : Option ℕ → Digit
-digit_of o = record { held = is_held o; value = blank_value o }
+-- the digits that are looked up, or the refusal
+abbrev pub as_pairing : Result (List (Option ℕ)) Refusal → Pairing
+as_pairing (Ok code) = pairing (map as_option code)
+as_pairing (Err e) = refused_lookup (number_of e)

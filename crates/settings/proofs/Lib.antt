@@ -1,6 +1,3 @@
 -- Laws of the code's own, for its proofs and for the crates below.
-pub mod Places
-pub mod Inserted
-pub mod Arrays
 pub mod Tables
 pub mod Slots

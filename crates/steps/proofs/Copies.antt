@@ -1,19 +1,20 @@
--- The rows of a table that a move copies, one after the other. Assumes nothing.
-use Prim.Native.Nat.{ℕ, zero, suc, ◌+◌, ◌≤◌}
+-- The settings of a table that a move copies, one after the other. Assumes nothing.
+use Prim.Native.Nat.{ℕ, ◌+◌, ◌≤◌, ◌<◌}
 use mathlib.Core.Path.{◌≡◌, refl, sym, ap, ◌∙◌}
 use mathlib.Core.Bool.{true, false}
 use mathlib.Core.List.{List, [], ◌∷◌, ◌++◌, map, map-append, append-nil, append_assoc}
 use native.Mathlib.Numerals.{add-one}
-use native.Mathlib.Omega.{arith}
-use lib.ListN.{get_or}
+use lib.ListN.{length, get_or, take, drop, length-map, get_or-map, take-append-drop}
+use lib.Seq.{take_all, take-suc}
 use lib.Dec.{eqb}
 use borrow.Author.Tests.{eq-eqb, ne_eqb, eqb-true, eqb-false}
 use Rattle.rules.proofs.Truth.{by_cases, not_both, or_false_left, or_false_right}
-use Rattle.rules.specs.Word.{Word}
+use Rattle.rules.specs.Word.{Word, record_word}
 use Rattle.rules.specs.Store.{Setting, setting, address_of}
-use Rattle.rules.specs.Steps.{but, but_all, record_of}
+use Rattle.rules.specs.Steps.{but, but_all, move_records, record_of}
 use Rattle.rules.specs.Call.{among}
-use Rattle.steps.specs.Copied.{rows, copied}
+use Rattle.settings.specs.declared.Setting.{Setting as Numbers}
+use Rattle.settings.specs.Held.{as_setting}
 
 but_append : (a : ℕ) (xs ys : List Setting) → but a (xs ++ ys) ≡ but a xs ++ but a ys
 unfolding but
@@ -48,60 +49,46 @@ one_left_out (setting a v ∷ rs) b u h =
     (λ t. rw (eq-eqb a b (sym (eqb-true b a t))) (but_all_none rs))
     (λ t. rw (ne_eqb a b (λ e. eqb-false b a t (sym e))) (one_left_out rs b u (rw t at h)))
 
-module _ (xs ys : List ℕ) (rs : List Setting) where
-  abbrev row : ℕ → Setting
-  row j = setting (get_or xs j 0) (get_or ys j 0)
-
-  -- the words of the first j rows that are copied
+module _ (table rs : List Setting) where
+  -- the words of the first j settings of the table that are copied
   abbrev pub kept : ℕ → List Word
-  kept j = map record_of (but_all rs (rows xs ys j))
+  kept j = map record_of (but_all rs (take j table))
 
-  rows_next : (j : ℕ) → rows xs ys (j + 1) ≡ rows xs ys j ++ (row j ∷ [])
-  unfolding rows
-  rows_next j = rw add-one
+  -- the setting at j
+  module _ (j a v : ℕ) (here : take (j + 1) table ≡ take j table ++ (setting a v ∷ [])) where
+    next_kept : kept (j + 1) ≡ kept j ++ map record_of (but_all rs (setting a v ∷ []))
+    next_kept =
+        ap (λ (zs : List Setting). map record_of (but_all rs zs)) here ∙ ap (map record_of) (but_all_append rs (take j table) (setting a v ∷ []))
+        ∙ map-append record_of (but_all rs (take j table)) (but_all rs (setting a v ∷ []))
 
-  next_kept : (j : ℕ) → kept (j + 1) ≡ kept j ++ map record_of (but_all rs (row j ∷ []))
-  next_kept j =
-      ap (λ (zs : List Setting). map record_of (but_all rs zs)) (rows_next j) ∙ ap (map record_of) (but_all_append rs (rows xs ys j) (row j ∷ []))
-      ∙ map-append record_of (but_all rs (rows xs ys j)) (but_all rs (row j ∷ []))
+    pub is_kept : among a (map address_of rs) ≡ false → kept (j + 1) ≡ kept j ++ record_word a v ∷ []
+    is_kept h = next_kept ∙ ap (λ (zs : List Setting). kept j ++ map record_of zs) (one_kept rs a v h)
 
-  pub row_kept : (j : ℕ) → among (get_or xs j 0) (map address_of rs) ≡ false → kept (j + 1) ≡ kept j ++ record_of (row j) ∷ []
-  row_kept j h = next_kept j ∙ ap (λ (zs : List Setting). kept j ++ map record_of zs) (one_kept rs (get_or xs j 0) (get_or ys j 0) h)
+    pub is_left_out : among a (map address_of rs) ≡ true → kept (j + 1) ≡ kept j
+    is_left_out h = next_kept ∙ ap (λ (zs : List Setting). kept j ++ map record_of zs) (one_left_out rs a v h) ∙ append-nil (kept j)
 
-  pub row_left_out : (j : ℕ) → among (get_or xs j 0) (map address_of rs) ≡ true → kept (j + 1) ≡ kept j
-  row_left_out j h =
-      next_kept j ∙ ap (λ (zs : List Setting). kept j ++ map record_of zs) (one_left_out rs (get_or xs j 0) (get_or ys j 0) h) ∙ append-nil (kept j)
-
-  rows_split : (j n : ℕ) → j ≤ n → (more : List Setting) × (rows xs ys n ≡ rows xs ys j ++ more)
-  unfolding rows
-  rows_split j zero l = let e : j ≡ 0 = omega arith in ([], rw e)
-  rows_split j (suc n) l =
-      by_cases (eqb j (suc n)) (λ t. ([], rw (eqb-true j (suc n) t) (sym (append-nil (rows xs ys (suc n))))))
-      (λ t.
-      let ne = eqb-false j (suc n) t in
-      let r = rows_split j n (less j n l ne) in
-      (r.0 ++ (row n ∷ []), ap (λ (zs : List Setting). zs ++ (row n ∷ [])) r.1 ∙ append_assoc (rows xs ys j) r.0 (row n ∷ [])))
-    where
-      less : (j n : ℕ) → j ≤ suc n → (j ≡ suc n → ⊥) → j ≤ n
-      less j n l ne = omega arith
-
-  -- what is copied begins with what the first j rows keep, and ends with the new records
-  pub copied_from : (n j : ℕ) → j ≤ n → (more : List Word) × (map record_of (copied xs ys n rs) ≡ kept j ++ more)
-  unfolding copied
-  copied_from n j l =
-      let r = rows_split j n l in (
-        map record_of (but_all rs r.0) ++ map record_of rs,
-        ap (λ (zs : List Setting). map record_of (but_all rs zs ++ rs)) r.1
-            ∙ ap (λ (zs : List Setting). map record_of (zs ++ rs)) (but_all_append rs (rows xs ys j) r.0)
-            ∙ map-append record_of (but_all rs (rows xs ys j) ++ but_all rs r.0) rs
-            ∙ ap (λ (ws : List Word). ws ++ map record_of rs) (map-append record_of (but_all rs (rows xs ys j)) (but_all rs r.0))
-            ∙ append_assoc (kept j) (map record_of (but_all rs r.0)) (map record_of rs),
+  -- what is copied begins with what the first j settings keep, and ends with the new records
+  pub copied_from : (j : ℕ) → (more : List Word) × (map record_of (move_records rs table) ≡ kept j ++ more)
+  copied_from j =
+      let rest = drop j table in (
+        map record_of (but_all rs rest) ++ map record_of rs,
+        ap (λ (zs : List Setting). map record_of (but_all rs zs ++ rs)) (sym (take-append-drop j table))
+            ∙ ap (λ (zs : List Setting). map record_of (zs ++ rs)) (but_all_append rs (take j table) rest)
+            ∙ map-append record_of (but_all rs (take j table) ++ but_all rs rest) rs
+            ∙ ap (λ (ws : List Word). ws ++ map record_of rs) (map-append record_of (but_all rs (take j table)) (but_all rs rest))
+            ∙ append_assoc (kept j) (map record_of (but_all rs rest)) (map record_of rs),
       )
 
-  pub copied_all : (n : ℕ) → map record_of (copied xs ys n rs) ≡ kept n ++ map record_of rs
-  unfolding copied
-  copied_all n = map-append record_of (but_all rs (rows xs ys n)) rs
+  pub copied_all : (j : ℕ) → length table ≤ j → map record_of (move_records rs table) ≡ kept j ++ map record_of rs
+  copied_all j h =
+      ap (λ (zs : List Setting). map record_of (but_all rs zs ++ rs)) (sym (take_all j table h)) ∙ map-append record_of (but_all rs (take j table)) rs
 
   pub kept_none : kept 0 ≡ []
-  unfolding rows
   kept_none = ap (map record_of) (but_all_none rs)
+
+-- the setting at a place of the table, which the code has as its own
+pub setting_here : (items : List Numbers) {table : List Setting} → map as_setting items ≡ table → (j : ℕ) (none : Numbers) → j < length items
+    → take (j + 1) table ≡ take j table ++ (as_setting (get_or items j none) ∷ [])
+setting_here items {table} e j none l =
+    rw (← e, add-one)
+    (take-suc (map as_setting items) j (as_setting none) (rw length-map l) ∙ ap (λ (s : Setting). take j (map as_setting items) ++ s ∷ []) (get_or-map as_setting items j none))

@@ -9,11 +9,6 @@ use Rattle.rules.specs.Flash.{Step, program, first, second, offset, aim, bytes_a
 use Rattle.rules.specs.Word.{word, word_steps}
 use Rattle.rules.proofs.Plans.{AllAllowed}
 
--- nothing is done where nothing is left
-pub none_left : (size left : ℕ) (ss : List Step) (i : List ℕ) → left ≡ 0 → i ≡ run size (take left ss) i
-unfolding run
-none_left size left ss i e = rw e
-
 module _ (size p k start : ℕ) (begins : start ≡ p * size) (a b c d : ℕ) (i : List ℕ) where
   -- where the code programs
   abbrev at : ℕ

@@ -1,11 +1,11 @@
 -- Picked pages, renewed one after the other, in the terms of the code. Assumes nothing.
-use Prim.Native.Nat.{ℕ, zero, suc, ◌+◌, ◌-◌, ◌*◌, ◌≤◌, ◌<◌, max}
-use mathlib.Core.Path.{◌≡◌, refl, sym, ap, ap₂, ◌∙◌}
+use Prim.Native.Nat.{ℕ, zero, suc, ◌+◌, ◌*◌, ◌≤◌, ◌<◌, max}
+use mathlib.Core.Path.{◌≡◌, refl, sym, ap, ap₂, ◌∙◌, subst}
 use mathlib.Core.Bool.{Bool, true, false, cond}
 use mathlib.Core.List.{List, [], ◌∷◌, ◌++◌, append-nil}
 use native.Mathlib.Numerals.{add-one}
 use native.Mathlib.Omega.{arith}
-use lib.ListN.{length, get_or, take, drop, replicate, length-append, length-map, length-replicate}
+use lib.ListN.{length, take, drop, replicate, length-map, length-replicate}
 use lib.Seq.{take-suc, take_all, length-take-le, drop-drop}
 use Rattle.rules.specs.Flash.{Half, Step, program, erase, first, second, offset, aim, bytes_at, after, run}
 use Rattle.rules.specs.Word.{Word, word, words, wear_word, word_steps}
@@ -16,10 +16,13 @@ use Rattle.rules.specs.Call.{cut, first_pages, page_in}
 use Rattle.rules.proofs.Truth.{by_cases}
 use Rattle.rules.proofs.Cut.{cut_length, drop_sets_below}
 use Rattle.rules.proofs.Told.{page_cut}
-use Rattle.rules.proofs.Plans.{cut_run}
-use Rattle.rules.proofs.Lengths.{renew_length}
 use Rattle.rules.proofs.Stores.{each_append}
+use Rattle.pages.specs.declared.form.Form.{Form as Numbers}
+use Rattle.pages.specs.Read.{as_form}
+use Rattle.steps.specs.declared.Steps.{Steps}
+use Rattle.steps.specs.Done.{Done}
 use Rattle.steps.specs.Picked.{picked_steps}
+use Rattle.steps.proofs.Doing.{done_nothing, done_then}
 
 -- a page whose bytes are as they were is as it was
 same_page : (fm : Form) (p : ℕ) (i j : List ℕ) → drop (p * (size fm)) j ≡ drop (p * (size fm)) i → page_in fm p j ≡ page_in fm p i
@@ -106,9 +109,9 @@ module _ (fm : Form) (n : ℕ) (i : List ℕ) where
   told_next : (j : ℕ) → j < n → take (suc j) told ≡ take j told ++ (page_in fm j i ∷ [])
   told_next j l = take-suc told j no_page (omega (arith, told_long)) ∙ ap (λ (p : Page). take j told ++ (p ∷ [])) (page_cut fm n j i l)
 
-  module _ (picks : List Bool) where
+  module _ (picks : ℕ → Bool) where
     abbrev chosen : ℕ → State → Bool
-    chosen k s = get_or picks k false
+    chosen k s = picks k
 
     -- the steps for the first j pages, and the greatest wear then
     unfoldable pub upto : ℕ → List Step
@@ -150,93 +153,76 @@ module _ (fm : Form) (n : ℕ) (i : List ℕ) where
     upto_all = ap (λ (ps : List Page). renew_each fm.edition (renewals chosen (greatest_wear told) 0 ps)) told_all
 
     module _ (j : ℕ) (l : j < n) where
-      pub upto_picked : get_or picks j false ≡ true → upto (j + 1) ≡ upto j ++ renew fm.edition j (renewed_wear (greatest_at j) (page_in fm j i).wear)
+      pub upto_picked : picks j ≡ true → upto (j + 1) ≡ upto j ++ renew fm.edition j (renewed_wear (greatest_at j) (page_in fm j i).wear)
       unfolding renewals each
       upto_picked t =
           let here = renew fm.edition j (renewed_wear (greatest_at j) (page_in fm j i).wear) in
           rw add-one (upto_next j l ∙ ap (λ (ss : List Step). upto j ++ ss) (rw t (append-nil here)))
 
-      pub greatest_picked : get_or picks j false ≡ true → greatest_at (j + 1) ≡ max (greatest_at j) (renewed_wear (greatest_at j) (page_in fm j i).wear)
+      pub greatest_picked : picks j ≡ true → greatest_at (j + 1) ≡ max (greatest_at j) (renewed_wear (greatest_at j) (page_in fm j i).wear)
       unfolding reached
       greatest_picked t = rw add-one (greatest_next j l ∙ rw t)
 
-      pub upto_passed : get_or picks j false ≡ false → upto (j + 1) ≡ upto j
+      pub upto_passed : picks j ≡ false → upto (j + 1) ≡ upto j
       unfolding renewals each
       upto_passed t = rw add-one (upto_next j l ∙ ap (λ (ss : List Step). upto j ++ ss) (rw t) ∙ append-nil (upto j))
 
-      pub greatest_passed : get_or picks j false ≡ false → greatest_at (j + 1) ≡ greatest_at j
+      pub greatest_passed : picks j ≡ false → greatest_at (j + 1) ≡ greatest_at j
       unfolding reached
       greatest_passed t = rw add-one (greatest_next j l ∙ rw t)
 
--- what holds when the loop has passed j pages
-pub record Passed (fm : Form) (n left : ℕ) (picks : List Bool) (i : List ℕ) (j : ℕ) (image : List ℕ) (rest greatest : ℕ) : Type 0 where
-  pub long : length image ≡ length i
-  pub is_left : rest ≡ left - length (upto fm n i picks j)
-  pub is_greatest : greatest ≡ greatest_at fm n i picks j
-  pub is_image : image ≡ run (size fm) (take left (upto fm n i picks j)) i
-  pub behind : drop (j * (size fm)) image ≡ drop (j * (size fm)) i
+-- what holds when the loop has passed j pages: the picked ones are renewed, and the pages from this one on are as they were
+pub record Passed (s : Steps) (n : ℕ) (picks : ℕ → Bool) (j : ℕ) (t : Steps) (greatest : ℕ) : Type 0 where
+  pub does : Done s (upto (as_form s.form) n s.image.now picks j) t
+  pub is_greatest : greatest ≡ greatest_at (as_form s.form) n s.image.now picks j
+  pub ahead : drop (j * size (as_form s.form)) t.image.now ≡ drop (j * size (as_form s.form)) s.image.now
 
-module _ (fm : Form) (n left : ℕ) (picks : List Bool) (i : List ℕ) where
-  pub passed_none : (greatest : ℕ) → greatest ≡ greatest_wear (first_pages fm n i) → Passed fm n left picks i 0 i left greatest
-  unfolding run
+module _ (s : Steps) (n : ℕ) (picks : ℕ → Bool) where
+  abbrev fm : Form
+  fm = as_form s.form
+
+  abbrev i : List ℕ
+  i = s.image.now
+
+  pub passed_none : (greatest : ℕ) → greatest ≡ greatest_wear (first_pages fm n i) → Passed s n picks 0 s greatest
   passed_none greatest g =
-      let e = upto_none fm n i picks in
       record {
-        long = refl;
-        is_left = rw e (omega arith);
+        does = subst (λ (ss : List Step). Done s ss s) (sym (upto_none fm n i picks)) (done_nothing s);
         is_greatest = g ∙ sym (greatest_first fm n i picks);
-        is_image = rw e (none left);
-        behind = refl;
+        ahead = refl;
       }
-    where
-      none : (m : ℕ) → i ≡ run (size fm) (take m []) i
-      none zero = refl
-      none (suc m) = refl
 
-  module _ (j : ℕ) (image : List ℕ) (rest greatest : ℕ) (h : Passed fm n left picks i j image rest greatest) (in_range : j < n) where
-    further : (l : List ℕ) → drop (j * (size fm) + (size fm)) l ≡ drop ((j + 1) * (size fm)) l
-    further l = let e : j * (size fm) + (size fm) ≡ (j + 1) * (size fm) = omega arith in ap (λ (x : ℕ). drop x l) e
+  module _ {j : ℕ} {t : Steps} {greatest : ℕ} (h : Passed s n picks j t greatest) (in_range : j < n) where
+    further : (l : List ℕ) → drop (j * size fm + size fm) l ≡ drop ((j + 1) * size fm) l
+    further l = let e : j * size fm + size fm ≡ (j + 1) * size fm = omega arith in ap (λ (x : ℕ). drop x l) e
 
-    behind_next : drop (j * (size fm) + (size fm)) image ≡ drop (j * (size fm) + (size fm)) i
-    behind_next = sym (drop-drop (size fm) (j * (size fm)) image) ∙ ap (drop (size fm)) h.behind ∙ drop-drop (size fm) (j * (size fm)) i
+    ahead_next : drop (j * size fm + size fm) t.image.now ≡ drop (j * size fm + size fm) i
+    ahead_next =
+        sym (drop-drop (size fm) (j * size fm) t.image.now) ∙ ap (drop (size fm)) h.ahead ∙ drop-drop (size fm) (j * size fm) i
 
-    pub passed_by : get_or picks j false ≡ false → Passed fm n left picks i (j + 1) image rest greatest
-    passed_by t =
-        let e = upto_passed fm n i picks j in_range t in
+    pub passed_by : picks j ≡ false → Passed s n picks (j + 1) t greatest
+    passed_by h₀ =
         record {
-          long = h.long;
-          is_left = rw e h.is_left;
-          is_greatest = h.is_greatest ∙ sym (greatest_passed fm n i picks j in_range t);
-          is_image = rw e h.is_image;
-          behind = sym (further image) ∙ behind_next ∙ further i;
+          does = subst (λ (ss : List Step). Done s ss t) (sym (upto_passed fm n i picks j in_range h₀)) h.does;
+          is_greatest = h.is_greatest ∙ sym (greatest_passed fm n i picks j in_range h₀);
+          ahead = sym (further t.image.now) ∙ ahead_next ∙ further i;
         }
 
-    pub passed_picked : (image' : List ℕ) (rest' wear greatest' : ℕ) → get_or picks j false ≡ true → length image' ≡ length image
-        → wear ≡ renewed_wear greatest (page_in fm j image).wear → rest' ≡ rest - 3 → image' ≡ run (size fm) (take rest (renew fm.edition j wear)) image
-        → greatest' ≡ max greatest wear → Passed fm n left picks i (j + 1) image' rest' greatest'
-    passed_picked image' rest' wear greatest' t l is r q m =
+    pub passed_picked : {u : Steps} {wear greatest' : ℕ} → picks j ≡ true → wear ≡ renewed_wear greatest (page_in (as_form t.form) j t.image.now).wear
+        → Done t (renew t.form.edition j wear) u → greatest' ≡ max greatest wear → Passed s n picks (j + 1) u greatest'
+    passed_picked {u} {wear} {greatest'} h₁ is d m =
         let w = renewed_wear (greatest_at fm n i picks j) (page_in fm j i).wear in
-        let got : wear ≡ w = is ∙ ap₂ renewed_wear h.is_greatest (ap (λ (p : Page). p.wear) (same_page fm j i image h.behind)) in
-        let e = upto_picked fm n i picks j in_range t in
-        let len = length-append (upto fm n i picks j) (renew fm.edition j w) in
-        let three = renew_length fm.edition j w in
-        let q' : image' ≡ run (size fm) (take rest (renew fm.edition j w)) image = q
-        ∙ ap (λ (x : ℕ). run (size fm) (take rest (renew fm.edition j x)) image) got in
-        let left_is = h.is_left in
+        let got : wear ≡ w =
+        (rw h.does.same_form at is) ∙ ap₂ renewed_wear h.is_greatest (ap (λ (p : Page). p.wear) (same_page fm j i t.image.now h.ahead)) in
+        let e : renew t.form.edition j wear ≡ renew s.form.edition j w =
+        ap₂ (λ (f : Numbers) (x : ℕ). renew f.edition j x) h.does.same_form got in
+        let d' = subst (λ (ss : List Step). Done t ss u) e d in
         record {
-          long = l ∙ h.long;
-          is_left = rw e (omega arith);
-          is_greatest = m ∙ ap₂ max h.is_greatest got ∙ sym (greatest_picked fm n i picks j in_range t);
-          is_image = rw e (q' ∙ ap (λ (x : ℕ). run (size fm) (take x (renew fm.edition j w)) image) h.is_left
-              ∙ ap (run (size fm) (take (left - length (upto fm n i picks j)) (renew fm.edition j w))) h.is_image
-              ∙ sym (cut_run (size fm) left (upto fm n i picks j) (renew fm.edition j w) i));
-          behind = sym (further image') ∙ ap (drop (j * (size fm) + (size fm))) q'
-              ∙ renew_behind (word_count fm) fm.edition j w rest image (omega arith) ∙ behind_next ∙ further i;
+          does = subst (λ (ss : List Step). Done s ss u) (sym (upto_picked fm n i picks j in_range h₁)) (done_then h.does d');
+          is_greatest = m ∙ ap₂ max h.is_greatest got ∙ sym (greatest_picked fm n i picks j in_range h₁);
+          ahead = sym (further u.image.now) ∙ ap (drop (j * size fm + size fm)) (rw h.does.same_form at d'.image)
+              ∙ renew_behind (word_count fm) s.form.edition j w t.left t.image.now (omega arith) ∙ ahead_next ∙ further i;
         }
 
-pub passed_all : (fm : Form) (n left : ℕ) (picks : List Bool) (i : List ℕ) (j : ℕ) (image : List ℕ) (rest greatest : ℕ)
-    → Passed fm n left picks i j image rest greatest → j ≡ n
-    → (rest ≡ left - length (picked_steps fm n picks i)) × (image ≡ run (size fm) (take left (picked_steps fm n picks i)) i)
-passed_all fm n left picks i j image rest greatest h e =
-    let u : upto fm n i picks j ≡ picked_steps fm n picks i = ap (upto fm n i picks) e ∙ upto_all fm n i picks in
-    (h.is_left ∙ ap (λ (ss : List Step). left - length ss) u, h.is_image ∙ ap (λ (ss : List Step). run (size fm) (take left ss) i) u)
+  pub passed_all : {j : ℕ} {t : Steps} {greatest : ℕ} → Passed s n picks j t greatest → j ≡ n → Done s (picked_steps fm n picks i) t
+  passed_all {t = t} h e = subst (λ (ss : List Step). Done s ss t) (ap (upto fm n i picks) e ∙ upto_all fm n i picks) h.does

@@ -1,15 +1,19 @@
 -- A page that is erased and gets its wear word, under an allowance, in the terms of the code. Assumes nothing.
 use Prim.Native.Nat.{ℕ, zero, suc, ◌+◌, ◌-◌, ◌*◌, ◌≤◌}
 use mathlib.Core.Path.{◌≡◌, refl, sym, ap, ap₂, ◌∙◌, subst}
-use mathlib.Core.List.{List, ◌∷◌, ◌++◌, append-nil, append_assoc}
+use mathlib.Core.List.{List, ◌++◌, append-nil, append_assoc}
+use native.Mathlib.Nat.{zero-add}
 use native.Mathlib.Numerals.{add-one}
 use native.Mathlib.Omega.{arith}
 use lib.ListN.{length, take, replicate}
 use lib.Seq.{sets}
 use Rattle.rules.specs.Flash.{Step, erase, offset, aim, after, run}
-use Rattle.rules.specs.Word.{Word, word, wear_word, word_steps}
+use Rattle.rules.specs.Word.{Word, wear_word, word_steps}
 use Rattle.rules.specs.Steps.{renew, renew_all}
-use Rattle.rules.proofs.Plans.{AllAllowed, allowed_take, erased_allowed, run_append}
+use Rattle.rules.proofs.Plans.{AllAllowed, allowed_take, erased_allowed}
+use Rattle.steps.specs.declared.Steps.{Steps}
+use Rattle.steps.specs.Done.{Done}
+use Rattle.steps.proofs.Doing.{done_then}
 
 -- the erase, at the offset and of the size that were computed
 pub erased_page : (p size : ℕ) (i : List ℕ) {j : List ℕ} (start n : ℕ) → start ≡ p * size → n ≡ size → j ≡ sets i start (replicate n 255)
@@ -46,15 +50,9 @@ renew_all_next edition k (suc n) =
     ap (λ (ss : List Step). renew edition k 1 ++ ss) (renew_all_next edition (suc k) n ∙ ap (λ (x : ℕ). renew_all edition (suc k) n ++ renew edition x 1) e)
     ∙ sym (append_assoc (renew edition k 1) (renew_all edition (suc k) n) (renew edition (k + suc n) 1))
 
-pub renew_all_more : (size edition n : ℕ) (i j l : List ℕ) → j ≡ run size (renew_all edition 0 n) i → l ≡ run size (take 3 (renew edition n 1)) j
-    → l ≡ run size (renew_all edition 0 (n + 1)) i
-unfolding renew word_steps
-renew_all_more size edition n i j l h g =
-    let e : 0 + n ≡ n = omega arith in
-    let s : renew_all edition 0 (n + 1) ≡ renew_all edition 0 n
-    ++ renew edition n 1 = rw add-one (renew_all_next edition 0 n ∙ ap (λ (x : ℕ). renew_all edition 0 n ++ renew edition x 1) e) in
-    g ∙ ap (λ (ss : List Step). run size ss j) (three_steps (wear_word edition 1)) ∙ ap (run size (renew edition n 1)) h
-    ∙ sym (run_append size (renew_all edition 0 n) (renew edition n 1) i) ∙ ap (λ (ss : List Step). run size ss i) (sym s)
-  where
-    three_steps : (w : Word) → take 3 (erase n ∷ word_steps n 0 w) ≡ erase n ∷ word_steps n 0 w
-    three_steps (word a b c d) = refl
+pub renew_all_more : {s t u : Steps} (n : ℕ) → Done s (renew_all s.form.edition 0 n) t → Done t (renew t.form.edition n 1) u
+    → Done s (renew_all s.form.edition 0 (n + 1)) u
+renew_all_more {s} {t} {u} n d e =
+    let more : renew_all s.form.edition 0 n ++ renew t.form.edition n 1 ≡ renew_all s.form.edition 0 (n + 1) =
+    rw (d.same_form, add-one) (sym (renew_all_next s.form.edition 0 n ∙ rw zero-add)) in
+    subst (λ (ss : List Step). Done s ss u) more (done_then d e)

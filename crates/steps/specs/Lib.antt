@@ -1,3 +1,4 @@
 -- Definitions that the contracts of this crate cite.
+pub mod Done
 pub mod Picked
 pub mod Copied

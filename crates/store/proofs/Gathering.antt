@@ -1,28 +1,27 @@
 -- The records of the used pages, gathered page by page. Assumes nothing.
 use Prim.Native.Nat.{ℕ, ◌+◌, ◌-◌, ◌≤◌, ◌<◌}
-use mathlib.Core.Path.{◌≡◌, sym, ap, ap₂, ◌∙◌, subst}
+use mathlib.Core.Path.{◌≡◌, sym, ap, ap₂, ◌∙◌}
 use mathlib.Core.Logic.{◌⊎◌, inl, inr}
 use mathlib.Core.Bool.{Bool, ◌&&◌}
 use mathlib.Core.List.{List, [], ◌++◌, map, map-append}
 use native.Mathlib.Omega.{arith}
-use lib.ListN.{length, get_or, take, replicate}
+use native.Mathlib.Numerals.{add-one}
+use lib.ListN.{length, get_or, take, drop, replicate, take-append-drop}
 use lib.Seq.{take_all, take-append_seam}
-use lib.Dec.{eqb, leb}
-use borrow.Author.Tests.{eqb-true, eqb-false}
+use lib.Dec.{leb, ltb}
 use Rattle.rules.specs.Word.{Word, Slot, slot}
-use Rattle.rules.specs.Page.{Form, State, Page, page, blank_word}
+use Rattle.rules.specs.Page.{Form, Page, page, blank_word}
 use Rattle.rules.specs.Store.{outside, place_behind, records, records_in, all_records, free_slot, active_index, active_page, active_slots, has_room}
-use Rattle.rules.specs.Store.{in_group, end_of, open_group, page_at, put_all, states, journal, settings}
+use Rattle.rules.specs.Store.{Setting, in_group, end_of, open_group, page_at, put_all, states, journal, settings}
 use Rattle.rules.specs.Call.{page_in, pages}
-use Rattle.rules.proofs.Truth.{by_cases}
-use Rattle.rules.proofs.Settings.{settings_rising, put_all_append}
+use Rattle.rules.proofs.Settings.{put_all_append}
 use Rattle.rules.proofs.Slots.{FreeAt, free_at, blanks_unsound, records_before, place_append, unsound_stays}
-use Rattle.settings.specs.Held.{Holds, Become}
+use Rattle.rules.proofs.Stores.{each_append}
 use Rattle.survey.specs.States.{slots_in}
 use Rattle.survey.specs.declared.Look.{Look}
-use Rattle.survey.specs.Look.{pages_number, Lines, Told, Looks}
+use Rattle.survey.specs.Look.{pages_number, Told}
 use Rattle.survey.proofs.Slots.{page_is, slots_are, slots_many}
-use Rattle.survey.proofs.Looking.{line_next, line_pages, told_few, told_some, line_places, line_within}
+use Rattle.survey.proofs.Looking.{line_next, line_pages, told_some, line_places, line_within}
 use Rattle.store.specs.Gather.{gathered, Passes, standing, Ends}
 
 -- ---- the slots before the free one
@@ -53,48 +52,52 @@ module _ (e : ℕ) (ws : List Word) where
       ∙ ap (λ (vs : List Word). in_group (standing e vs)) (sym free.form)
 
 -- what the look tells is what is to be passed
-module _ {fm : Form} {i : List ℕ} {look : Look} (h : Looks fm i look) where
-  abbrev all : List State
-  all = states (pages fm i)
+module _ {fm : Form} {i : List ℕ} {look : Look} (ok : pages_number fm i ≡ 0) (t : Told fm i look) where
+  abbrev line : List ℕ
+  line = look.line.items
 
-  passes_all : pages_number fm i ≡ 0 → Told fm i look → Passes fm i look.line look.used look.free
+  pub passes : Passes fm i line look.free
   unfolding active_slots active_page
-  passes_all ok t =
-      let place : (k : ℕ) → k + 1 ≡ look.used → active_index all ≡ get_or look.line k 0 =
-      λ k e. sym t.line.last ∙ (let z : look.used - 1 ≡ k = omega arith in rw z) in
+  passes =
+      let place : (k : ℕ) → k + 1 ≡ length line → active_index (states (pages fm i)) ≡ get_or line k 0 =
+      λ k e. sym t.line.last ∙ (let z : length line - 1 ≡ k = omega arith in rw z) in
       record {
-        few = (told_few ok t).1;
-        long = t.line.long;
-        room = λ l. t.room;
+        room = t.room;
         places = line_places ok t;
         within = line_within ok t;
         last = λ k e.
             let w = t.line.within k (omega arith) in
-            t.free ∙ ap free_slot (ap (λ (j : ℕ). (page_at j (pages fm i)).slots) (place k e) ∙ slots_are fm (get_or look.line k 0) i w);
+            t.free ∙ ap free_slot (ap (λ (j : ℕ). (page_at j (pages fm i)).slots) (place k e) ∙ slots_are fm (get_or line k 0) i w);
       }
 
-  pub passes : Passes fm i look.line look.used look.free
-  passes =
-      by_cases (eqb look.number 0)
-      (λ t. let z = eqb-true look.number 0 t in passes_all (sym h.number ∙ z) (h.told z))
-      (λ t.
-      let none = h.none (eqb-false look.number 0 t) in
-      record {
-        few = omega arith;
-        long = omega arith;
-        room = λ l. absurd (omega arith);
-        places = λ k l. absurd (omega arith);
-        within = λ k l. absurd (omega arith);
-        last = λ k e. absurd (omega arith);
-      })
+  -- the line is that of the used pages, oldest first
+  pub gathered_settings : put_all [] (gathered fm i line) ≡ settings (pages fm i)
+  unfolding settings journal gathered
+  gathered_settings = ap (λ (ps : List Page). put_all [] (all_records ps)) (line_pages fm i t.line)
+
+  -- and the last of them is the active page
+  pub group_told : (grouped : Bool) → Ends fm i line (length line) grouped → (ltb look.free fm.slot_count && grouped) ≡ open_group (pages fm i)
+  unfolding open_group has_room active_slots active_page Ends page slots_in
+  group_told grouped ends =
+      let some = told_some ok t in
+      let k = length line - 1 in
+      let w = t.line.within k (omega arith) in
+      let p = get_or line k 0 in
+      let e = ends k (omega arith) in
+      let it : active_page (pages fm i) ≡ page_in fm p i =
+      ap (λ (j : ℕ). page_at j (pages fm i)) (sym t.line.last) ∙ page_is fm p i w in
+      let many : length (active_slots (pages fm i)) ≡ fm.slot_count =
+      ap (λ (q : Page). length q.slots) it ∙ slots_many fm p i (line_within ok t k (omega arith)) in
+      ap₂ (λ (x y : Bool). x && y) (ap (λ (n : ℕ). leb n fm.slot_count) (sym (add-one look.free)) ∙ ap₂ (λ (x y : ℕ). leb (x + 1) y) t.free (sym many))
+      (e ∙ ap (λ (q : Page). in_group (end_of q)) (sym it))
 
 -- so many slots of the page at a place of the line are passed: all, or of the last one those before the free one
 abbrev pub Passed : (form : Form) (used free k n : ℕ) → Type 0
 Passed fm used free k n = ((k + 1 ≡ used) × (n ≡ free)) ⊎ (n ≡ fm.slot_count)
 
-module _ {fm : Form} {i line : List ℕ} {used free : ℕ} (p : Passes fm i line used free) (k n : ℕ) (l : k < used) where
-  pub slots_few : Passed fm used free k n → n ≤ fm.slot_count
-  slots_few (inl w) = let e = w.1 in omega (arith, p.room (omega arith))
+module _ {fm : Form} {i line : List ℕ} {free : ℕ} (p : Passes fm i line free) (k n : ℕ) (l : k < length line) where
+  pub slots_few : Passed fm (length line) free k n → n ≤ fm.slot_count
+  slots_few (inl w) = let e = w.1 in omega (arith, p.room)
   slots_few (inr e) = omega arith
 
   abbrev slots : List Word
@@ -104,52 +107,34 @@ module _ {fm : Form} {i line : List ℕ} {used free : ℕ} (p : Passes fm i line
   all_taken e = take_all n slots (omega (arith, slots_many fm (get_or line k 0) i (p.within k l)))
 
   -- then no record is passed over, nor the end of a group
-  pub all_passed : Passed fm used free k n → records fm.edition (take n slots) ≡ records fm.edition slots
+  pub all_passed : Passed fm (length line) free k n → records fm.edition (take n slots) ≡ records fm.edition slots
   all_passed (inl w) = rw (w.1 ∙ p.last k w.0) (records_free fm.edition slots)
   all_passed (inr e) = ap (records fm.edition) (all_taken e)
 
-  pub all_ends : Passed fm used free k n → in_group (standing fm.edition (take n slots)) ≡ in_group (standing fm.edition slots)
+  pub all_ends : Passed fm (length line) free k n → in_group (standing fm.edition (take n slots)) ≡ in_group (standing fm.edition slots)
   all_ends (inl w) = rw (w.1 ∙ p.last k w.0) (standing_free fm.edition slots)
   all_ends (inr e) = ap (λ (ws : List Word). in_group (standing fm.edition ws)) (all_taken e)
 
 -- ---- one page more
 
 module _ (fm : Form) (i line : List ℕ) (k : ℕ) (l : k < length line) where
-  gathered_next : gathered fm i (take (k + 1) line) ≡ gathered fm i (take k line) ++ records fm.edition (slots_in fm (get_or line k 0) i)
+  pub gathered_next : gathered fm i (take (k + 1) line) ≡ gathered fm i (take k line) ++ records fm.edition (slots_in fm (get_or line k 0) i)
   unfolding gathered slots_in page
   gathered_next = line_next fm i records_in line k l
 
-  -- the records of so many slots that no other has one
-  pub gather_more : (n : ℕ) {xs ys xs' ys' : List ℕ} {h h' : ℕ}
-      → records fm.edition (take n (slots_in fm (get_or line k 0) i)) ≡ records fm.edition (slots_in fm (get_or line k 0) i)
-      → Holds xs ys h (put_all [] (gathered fm i (take k line)))
-      → Become (λ t. put_all t (records fm.edition (take n (slots_in fm (get_or line k 0) i)))) xs ys h xs' ys' h'
-      → Holds xs' ys' h' (put_all [] (gathered fm i (take (k + 1) line)))
-  gather_more n {xs} {ys} {xs'} {ys'} {h} {h'} all holds become =
-      let before = gathered fm i (take k line) in
-      let e = ap (put_all (put_all [] before)) all ∙ sym (put_all_append [] before (records fm.edition (slots_in fm (get_or line k 0) i)))
-      ∙ ap (put_all []) (sym gathered_next) in
-      subst (Holds xs' ys' h') e (become (put_all [] before) (settings_rising before) holds)
+  -- its records put in behind those of the pages before it
+  pub gather_more : put_all (put_all [] (gathered fm i (take k line))) (records fm.edition (slots_in fm (get_or line k 0) i))
+      ≡ put_all [] (gathered fm i (take (k + 1) line))
+  gather_more =
+      sym (put_all_append [] (gathered fm i (take k line)) (records fm.edition (slots_in fm (get_or line k 0) i)))
+      ∙ ap (put_all []) (sym gathered_next)
 
--- ---- the line is that of the used pages, oldest first
-
-module _ (fm : Form) (i : List ℕ) where
-  pub gathered_settings : (line : List ℕ) (n : ℕ) → Lines fm i n line → put_all [] (gathered fm i (take n line)) ≡ settings (pages fm i)
-  unfolding settings journal gathered
-  gathered_settings line n h = ap (λ (ps : List Page). put_all [] (all_records ps)) (line_pages fm i h)
-
-  -- and the last of them is the active page
-  pub group_told : (look : Look) (grouped : Bool) → pages_number fm i ≡ 0 → Told fm i look → Ends fm i look.line look.used grouped
-      → (leb (look.free + 1) fm.slot_count && grouped) ≡ open_group (pages fm i)
-  unfolding open_group has_room active_slots active_page Ends page slots_in
-  group_told look grouped ok t ends =
-      let some = told_some ok t in
-      let k = look.used - 1 in
-      let w = t.line.within k (omega arith) in
-      let p = get_or look.line k 0 in
-      let e = ends k (omega arith) in
-      let it : active_page (pages fm i) ≡ page_in fm p i =
-      ap (λ (j : ℕ). page_at j (pages fm i)) (sym t.line.last) ∙ page_is fm p i w in
-      let many : length (active_slots (pages fm i)) ≡ fm.slot_count =
-      ap (λ (q : Page). length q.slots) it ∙ slots_many fm p i (line_within ok t k (omega arith)) in
-      ap₂ (λ (x y : Bool). x && y) (ap₂ (λ (x y : ℕ). leb (x + 1) y) t.free (sym many)) (e ∙ ap (λ (q : Page). in_group (end_of q)) (sym it))
+-- the pages behind some have more records
+pub gathered_rest : (fm : Form) (i line : List ℕ) (k : ℕ) → (rs : List Setting) × (gathered fm i line ≡ gathered fm i (take k line) ++ rs)
+unfolding gathered
+gathered_rest fm i line k =
+    let ps = λ (ks : List ℕ). map (λ (j : ℕ). page_in fm j i) ks in (
+      all_records (ps (drop k line)),
+      ap (λ ks. all_records (ps ks)) (sym (take-append-drop k line)) ∙ ap all_records (map-append (λ (j : ℕ). page_in fm j i) (take k line) (drop k line))
+          ∙ each_append records_in (ps (take k line)) (ps (drop k line)),
+    )

@@ -1,23 +1,18 @@
 -- From the look at the pages and the settings to the answer. Assumes nothing.
-use Prim.Native.Nat.{ℕ, zero, suc}
+use Prim.Native.Nat.{ℕ, ◌≤◌, ◌<◌}
 use mathlib.Core.Path.{◌≡◌, refl, sym, ◌∙◌}
 use mathlib.Core.Bool.{Bool, true, false, cond, ◌||◌}
 use mathlib.Core.List.{List}
 use lib.Dec.{eqb, ltb}
-use lib.ListN.{length}
-use native.Mathlib.Omega.{arith}
-use borrow.Author.Tests.{eqb-true, eqb-false, ne_eqb, lt-ltb, le-ltb, ltb-true, ltb-false}
+use borrow.Author.Tests.{eqb-true, eqb-false, lt-ltb, le-ltb}
 use Rattle.rules.specs.Page.{Form}
-use Rattle.rules.specs.Store.{states, base, used_orders, settings, held}
-use Rattle.rules.specs.Call.{first_of, store_rows, pages, wrong_size, no_store, repeats, all_used, damaged, store_number, held_limit, accepted, OK, SIZE}
+use Rattle.rules.specs.Store.{states, base, used_orders, held}
+use Rattle.rules.specs.Call.{first_of, store_rows, pages, wrong_size, no_store, repeats, all_used, damaged, store_number, held_limit, OK, SIZE}
 use Rattle.rules.specs.Call.{NO_STORE, DAMAGED}
 use Rattle.rules.proofs.Truth.{by_cases}
 use Rattle.rules.proofs.Rows.{then}
-use Rattle.rules.proofs.Answers.{then_refused}
+use Rattle.rules.proofs.Answers.{then_refused, then_ok}
 use Rattle.survey.specs.Look.{pages_rows, pages_number}
-use Rattle.settings.specs.Held.{Holds}
-use Rattle.settings.proofs.Tables.{held_few, held_many}
-use Rattle.store.specs.Opened.{with_held}
 
 -- the last part of DAMAGED is tested behind the others
 held_last : (w s x y z : Bool)
@@ -29,13 +24,8 @@ held_last false false true y z = refl
 held_last false false false true z = refl
 held_last false false false false z = refl
 
-pub with_held_then : (number h : ℕ) → with_held number h ≡ then number (cond (ltb held_limit h) DAMAGED OK)
-unfolding with_held first_of accepted then
-with_held_then zero h = refl
-with_held_then (suc n) h = rw (ne_eqb (suc n) 0 (λ e. omega arith))
-
 module _ (fm : Form) (i : List ℕ) where
-  abbrev too_many : Bool
+  abbrev pub too_many : Bool
   too_many = ltb held_limit (held (pages fm i))
 
   pages_then_held : then (pages_number fm i) (cond too_many DAMAGED OK) ≡ store_number fm i
@@ -44,26 +34,22 @@ module _ (fm : Form) (i : List ℕ) where
       let ss = states (pages fm i) in
       held_last (wrong_size fm i) (no_store (pages fm i)) (repeats (used_orders (base ss) ss)) (all_used ss) too_many
 
-  pages_refused : (number next : ℕ) → number ≡ pages_number fm i → (number ≡ 0 → ⊥) → then number next ≡ store_number fm i
-  pages_refused number next e ne =
-      then_refused number next ne ∙ e ∙ sym (then_refused (pages_number fm i) (cond too_many DAMAGED OK) (λ q. ne (e ∙ q))) ∙ pages_then_held
+  -- an image is refused by its pages, or by how many addresses are held, or not
+  pub refused_by_pages : (number : ℕ) → pages_number fm i ≡ number → (number ≡ 0 → ⊥) → store_number fm i ≡ number
+  refused_by_pages number e ne =
+      sym pages_then_held ∙ then_refused (pages_number fm i) (cond too_many DAMAGED OK) (λ z. ne (sym e ∙ z)) ∙ e
 
-  pub with_held_is : (number h : ℕ) → number ≡ pages_number fm i → (number ≡ 0 → ltb held_limit h ≡ too_many) → with_held number h ≡ store_number fm i
-  with_held_is number h e same =
-      with_held_then number h
-      ∙ by_cases (eqb number 0) (λ z. rw (same (eqb-true number 0 z), e) pages_then_held)
-      (λ z. pages_refused number (cond (ltb held_limit h) DAMAGED OK) e (eqb-false number 0 z))
+  pub told_by_held : pages_number fm i ≡ 0 → store_number fm i ≡ cond too_many DAMAGED OK
+  told_by_held ok = sym pages_then_held ∙ then_ok (pages_number fm i) (cond too_many DAMAGED OK) ok
+
+  pub refused_by_held : pages_number fm i ≡ 0 → 192 < held (pages fm i) → store_number fm i ≡ DAMAGED
+  refused_by_held ok many = rw (told_by_held ok, lt-ltb held_limit (held (pages fm i)) many)
+
+  pub accepted_by_held : pages_number fm i ≡ 0 → held (pages fm i) ≤ 192 → store_number fm i ≡ 0
+  accepted_by_held ok few = rw (told_by_held ok, le-ltb held_limit (held (pages fm i)) few)
 
   -- a store that is accepted has pages that are
-  pub pages_ok : (number : ℕ) → number ≡ pages_number fm i → store_number fm i ≡ 0 → number ≡ 0
-  pages_ok number e ok =
-      by_cases (eqb number 0) (λ z. eqb-true number 0 z)
-      (λ z. let ne = eqb-false number 0 z in sym (then_refused number OK ne) ∙ pages_refused number OK e ne ∙ ok)
-
-  -- the settings tell whether they are too many
-  pub over_held : (xs ys : List ℕ) (h : ℕ) → Holds xs ys h (settings (pages fm i)) → ltb held_limit h ≡ too_many
-  unfolding held
-  over_held xs ys h holds =
-      let n = length (settings (pages fm i)) in
-      by_cases (ltb held_limit h) (λ t. t ∙ sym (lt-ltb held_limit n (held_many holds (ltb-true held_limit h t))))
-      (λ t. t ∙ sym (le-ltb held_limit n (held_few holds (ltb-false held_limit h t))))
+  pub pages_accepted : store_number fm i ≡ 0 → pages_number fm i ≡ 0
+  pages_accepted ok =
+      by_cases (eqb (pages_number fm i) 0) (λ z. eqb-true (pages_number fm i) 0 z)
+      (λ z. sym (refused_by_pages (pages_number fm i) refl (eqb-false (pages_number fm i) 0 z)) ∙ ok)

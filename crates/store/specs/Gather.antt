@@ -10,14 +10,12 @@ use Rattle.survey.specs.States.{slots_in}
 unfoldable pub gathered : (form : Form) → List ℕ → (places : List ℕ) → List Setting
 gathered f i ks = all_records (map (λ (k : ℕ). page_in f k i) ks)
 
--- the first `used` of the places are those of pages of the image, and `free` is the free slot of the last one
-pub record Passes (fm : Form) (i line : List ℕ) (used free : ℕ) : Type 0 where
-  pub few : used ≤ 32
-  pub long : used ≤ length line
-  pub room : 0 < used → free ≤ fm.slot_count
-  pub places : (k : ℕ) → k < used → get_or line k 0 < 32
-  pub within : (k : ℕ) → k < used → get_or line k 0 * size fm + size fm ≤ length i
-  pub last : (k : ℕ) → k + 1 ≡ used → free ≡ free_slot (slots_in fm (get_or line k 0) i)
+-- the places are those of pages of the image, and `free` is the free slot of the last one
+pub record Passes (fm : Form) (i line : List ℕ) (free : ℕ) : Type 0 where
+  pub room : free ≤ fm.slot_count
+  pub places : (k : ℕ) → k < length line → get_or line k 0 < 32
+  pub within : (k : ℕ) → k < length line → get_or line k 0 * size fm + size fm ≤ length i
+  pub last : (k : ℕ) → k + 1 ≡ length line → free ≡ free_slot (slots_in fm (get_or line k 0) i)
 
 -- where the slot behind these slots stands
 abbrev pub standing : (edition : ℕ) → List Word → Place

@@ -1,27 +1,27 @@
 -- What a call knows of an image when it has looked at it once.
-use Rattle.std.specs.Prelude.{ℕ, ◌≡◌, not, List, [], ◌∷◌, ltb}
+use Rattle.std.specs.Prelude.{ℕ, ◌≡◌, ◌≤◌, List, length, Result, Ok, Err}
 use Rattle.rules.specs.Page.{Form}
-use Rattle.rules.specs.Store.{settings, open_group}
-use Rattle.rules.specs.Call.{row, first_of, pages, store_number, accepted, held_limit, DAMAGED}
-use Rattle.settings.specs.Held.{Holds}
+use Rattle.rules.specs.Store.{Setting, settings, open_group}
+use Rattle.rules.specs.Call.{pages, store_number}
+use Rattle.survey.specs.declared.refusal.Refusal.{Refusal}
+use Rattle.survey.specs.Refusals.{number_of}
 use Rattle.survey.specs.Look.{Told}
 use Rattle.store.specs.declared.Store.{Store}
 
--- the answer 0 to 3, from that of the pages and the number held
-unfoldable pub with_held : (number held : ℕ) → ℕ
-with_held number held = first_of (row number (not (accepted number)) ∷ row DAMAGED (ltb held_limit held) ∷ [])
-
 -- what is known of an image that is not refused: the pages, the settings, which the table has, and whether a group is open
-pub record Holding (fm : Form) (i : List ℕ) (r : Store) (xs ys : List ℕ) : Type 0 where
+pub record Holding (fm : Form) (i : List ℕ) (r : Store) (t : List Setting) : Type 0 where
+  pub accepted : store_number fm i ≡ 0
   pub told : Told fm i r.look
-  pub holds : Holds xs ys r.held (settings (pages fm i))
+  pub holds : t ≡ settings (pages fm i)
+  pub few : length t ≤ 192
   pub grouped : r.group ≡ open_group (pages fm i)
 
-pub record Opens (fm : Form) (i : List ℕ) (r : Store) (xs ys : List ℕ) : Type 0 where
-  pub number : r.number ≡ store_number fm i
-  pub holding : r.number ≡ 0 → Holding fm i r xs ys
+-- that, or the number by which the image is refused
+abbrev pub Opens : (fm : Form) (i : List ℕ) → Result Store Refusal → List Setting → Type 0
+Opens fm i (Ok r) t = Holding fm i r t
+Opens fm i (Err e) t = store_number fm i ≡ number_of e
 
 -- a store and a table that were opened from some image
-pub record Opened (fm : Form) (r : Store) (xs ys : List ℕ) : Type 0 where
+pub record Opened (fm : Form) (r : Store) (t : List Setting) : Type 0 where
   pub image : List ℕ
-  pub opens : Opens fm image r xs ys
+  pub holding : Holding fm image r t

@@ -7,10 +7,9 @@ use lib.ListN.{length, get_or, length-map}
 use Rattle.rules.specs.Page.{State}
 use Rattle.rules.specs.Store.{Under, base, used, order, add_order, used_orders, greatest, active_order, is_active, index_of, active_index}
 use Rattle.rules.proofs.Truth.{by_cases}
-use Rattle.survey.specs.Ranks.{rank}
 use Rattle.survey.specs.Places.{greatest_below, place_of, newest, next_below}
 use Rattle.survey.proofs.Greatest.{counted_in, greatest_in, place_within, newest_is, next_is}
-use Rattle.survey.proofs.Ranks.{rank_used, rank_unused, rank_is}
+use Rattle.survey.proofs.Ranks.{rank_in, rank_used, rank_unused, rank_is}
 
 -- one more than the greatest of some orders, 0 of none
 unfoldable next : List ℕ → ℕ
@@ -27,24 +26,24 @@ unfolding next
 next_some [] h = absurd (omega arith)
 next_some (o ∷ os) h = refl
 
-greatest_ranks : (m b : ℕ) (ss : List State) → Under m (map (rank b) ss) → greatest_below m (map (rank b) ss) ≡ next (used_orders b ss)
+greatest_ranks : (m b : ℕ) (ss : List State) → Under m (map (rank_in b) ss) → greatest_below m (map (rank_in b) ss) ≡ next (used_orders b ss)
 unfolding greatest_below greatest Under used_orders add_order next
 greatest_ranks m b [] h = refl
 greatest_ranks m b (s ∷ ss) h =
     let rest = greatest_ranks m b ss h.1 in
-    let here = counted_in m (rank b s) h.0 in
+    let here = counted_in m (rank_in b s) h.0 in
     by_cases (used b s) (λ u. rw (u, here, rest, rank_used b s u) (next_more (order s) (used_orders b ss)))
     (λ u. rw (u, here, rest, rank_unused b s u) (omega arith))
 
-place_ranks : (b o : ℕ) (ss : List State) → place_of (o + 1) (map (rank b) ss) ≡ index_of (is_active b o) ss
+place_ranks : (b o : ℕ) (ss : List State) → place_of (o + 1) (map (rank_in b) ss) ≡ index_of (is_active b o) ss
 unfolding place_of index_of
 place_ranks b o [] = refl
 place_ranks b o (s ∷ ss) = rw (rank_is b s o, place_ranks b o ss)
 
 -- in a store with a used page, of ranks that are all below the bound
-module _ (m : ℕ) (ss : List State) (some : 0 < length (used_orders (base ss) ss)) (under : Under m (map (rank (base ss)) ss)) where
+module _ (m : ℕ) (ss : List State) (some : 0 < length (used_orders (base ss) ss)) (under : Under m (map (rank_in (base ss)) ss)) where
   abbrev rs : List ℕ
-  rs = map (rank (base ss)) ss
+  rs = map (rank_in (base ss)) ss
 
   top : greatest_below m rs ≡ active_order ss + 1
   unfolding active_order
@@ -68,4 +67,4 @@ module _ (m : ℕ) (ss : List State) (some : 0 < length (used_orders (base ss) s
   active_inside =
       let e = newest_is m rs found in
       let l = place_within (greatest_below m rs) rs (greatest_in m rs found).0 in
-      omega (arith, active_newest, length-map ss (rank (base ss)))
+      omega (arith, active_newest, length-map ss (rank_in (base ss)))

@@ -1,9 +1,9 @@
 -- Laws of the code's own, for its proofs and for the crates above.
 pub mod Sizes
-pub mod Arrays
-pub mod Padded
-mod States
+mod Arrays
+mod Cuts
 mod Editions
+mod States
 pub mod Ranks
 pub mod Counts
 mod Greatest
@@ -13,3 +13,4 @@ mod Young
 pub mod Line
 pub mod Slots
 pub mod Looking
+pub mod Refusals

@@ -1,16 +1,18 @@
 -- What one look at an image tells, from what the functions counted. Assumes nothing.
 use Prim.Native.Nat.{ℕ, suc, ◌+◌, ◌-◌, ◌*◌, ◌≤◌, ◌<◌}
-use mathlib.Core.Path.{◌≡◌, refl, sym, ap, ap₂, ◌∙◌, subst}
+use mathlib.Core.Path.{◌≡◌, refl, sym, ap, ap₂, ◌∙◌}
 use mathlib.Core.Bool.{Bool, true, false, cond, ◌||◌}
 use mathlib.Core.List.{List, [], ◌∷◌, map, ◌++◌, append-nil}
 use native.Mathlib.Omega.{arith}
-use lib.ListN.{length, get_or, take, drop, length-append}
-use lib.Seq.{get_or-take, length-take-le}
+use lib.ListN.{length, get_or, take, drop, length-map}
 use lib.Dec.{eqb}
 use borrow.Author.Tests.{eqb-true, eqb-false, eq-eqb, ne_eqb}
-use Rattle.rules.specs.Page.{Form, size, State, bad, Page}
-use Rattle.rules.specs.Store.{Under, states, base, used, is_open, is_cleared, used_orders, count, active_index, active_order, active_page, active_slots, page_at, free_slot}
-use Rattle.rules.specs.Store.{used_pages, oldest_first, each, no_page}
+use Rattle.std.specs.Prelude.{Option, None, Some}
+use Rattle.std.specs.List.{count_by}
+use Rattle.std.proofs.lemmas.List.Sums.{count_by-le-length}
+use Rattle.rules.specs.Page.{Form, size, State, Page}
+use Rattle.rules.specs.Store.{Under, states, base, used, is_open, is_cleared, used_orders, count, active_index, active_order, active_page}
+use Rattle.rules.specs.Store.{active_slots, page_at, free_slot, used_pages, oldest_first, each, no_page}
 use Rattle.rules.specs.Steps.{unclean}
 use Rattle.rules.specs.Call.{first_of, page_count, pages, page_in, wrong_size, no_store, repeats, all_used, OK, NO_STORE, DAMAGED}
 use Rattle.rules.proofs.Cut.{page_within, pages_long}
@@ -19,21 +21,17 @@ use Rattle.rules.proofs.Rows.{AllFail, all_fail}
 use Rattle.rules.proofs.Stores.{each_append, length_states, orders_used, count_all, count_open, count_used}
 use Rattle.rules.proofs.Told.{page_cut}
 use Rattle.rules.proofs.Ready.{Sizes, right_sizes, some_used}
-use Rattle.pages.specs.Read.{as_state}
-use Rattle.pages.specs.declared.State.{State as Code}
-use Rattle.survey.specs.States.{Counted, first_states, padded, OrdersFit, slots_in}
-use Rattle.survey.specs.Ranks.{rank, spare, ranks, spares}
-use Rattle.survey.specs.Places.{taken_places, doubled, lined, Falls, at_places}
+use Rattle.survey.specs.declared.Role.{Role}
 use Rattle.survey.specs.declared.Look.{Look}
+use Rattle.survey.specs.States.{Paged, OrdersFit, slots_in}
+use Rattle.survey.specs.Roles.{role, order_in, is_used as is_used_role, is_cleared as is_cleared_role, rank, ranks}
+use Rattle.survey.specs.Places.{doubled, lined, at_places}
 use Rattle.survey.specs.Look.{pages_rows, pages_number, counted_number, Lines, Told}
-use Rattle.survey.proofs.Arrays.{getD_padded, map_next}
-use Rattle.survey.proofs.Padded.{newest_padded}
-use Rattle.survey.proofs.Sizes.{counted_none, counted_some}
-use Rattle.survey.proofs.States.{states_looked, fit_padded, base_padded}
-use Rattle.survey.proofs.Ranks.{ranks_padded, ranks_whole, ranks_under, spares_padded}
-use Rattle.survey.proofs.Counts.{count_ranks, count_spares, repeats_ranks}
+use Rattle.survey.proofs.Arrays.{map_next}
+use Rattle.survey.proofs.Ranks.{rank_at, rank_in, ranks_of, ranks_under}
+use Rattle.survey.proofs.Counts.{count_used_roles, count_cleared_roles, repeats_roles}
 use Rattle.survey.proofs.Active.{active_newest, active_rank, active_below, active_inside}
-use Rattle.survey.proofs.Line.{at_place, length_lined, lined_last, first_places, under_at, Lists, lists}
+use Rattle.survey.proofs.Line.{at_place, length_lined, lined_last, under_at, Lists, lists}
 use Rattle.survey.proofs.Slots.{slots_are}
 
 -- ---- the number
@@ -57,21 +55,20 @@ damaged_by false true = refl
 damaged_by false false = refl
 
 -- the number by what was counted is the number by the rules
-module _ (fm : Form) (i : List ℕ) (n u : ℕ) (t : Bool) where
-  abbrev ss : List State
-  ss = states (pages fm i)
+counted_is : (fm : Form) (i : List ℕ) (n u : ℕ) (t : Bool) → wrong_size fm i ≡ false → length (states (pages fm i)) ≡ n
+    → u ≡ count (used (base (states (pages fm i)))) (states (pages fm i))
+    → t ≡ repeats (used_orders (base (states (pages fm i))) (states (pages fm i))) → counted_number n u t ≡ pages_number fm i
+unfolding counted_number pages_number pages_rows first_of no_store all_used
+counted_is fm i n u t w l eu et =
+    let ss = states (pages fm i) in
+    rw (w, eu, et, none_open ss, ← l)
+    (ap (λ (x : ℕ). cond (eqb (count is_open ss) 0) NO_STORE x)
+    (damaged_by (repeats (used_orders (base ss) ss)) (eqb (count (used (base ss)) ss) (length ss))))
 
-  counted_is : (n ≡ 0 → ⊥) → wrong_size fm i ≡ false → length ss ≡ n → u ≡ count (used (base ss)) ss → t ≡ repeats (used_orders (base ss) ss)
-      → counted_number n u t ≡ pages_number fm i
-  unfolding counted_number pages_number pages_rows first_of no_store all_used
-  counted_is ne w l eu et =
-      rw (ne_eqb n 0 ne, w, eu, et, none_open ss, ← l)
-      (ap (λ (x : ℕ). cond (eqb (count is_open ss) 0) NO_STORE x)
-      (damaged_by (repeats (used_orders (base ss) ss)) (eqb (count (used (base ss)) ss) (length ss))))
-
-  counted_wrong : n ≡ 0 → wrong_size fm i ≡ true → counted_number n u t ≡ pages_number fm i
-  unfolding counted_number pages_number pages_rows first_of
-  counted_wrong e w = rw (eq-eqb n 0 e, w)
+-- an image of a wrong size is refused for that
+pub number_wrong : (fm : Form) (i : List ℕ) → wrong_size fm i ≡ true → pages_number fm i ≡ 1
+unfolding pages_number pages_rows first_of
+number_wrong fm i w = rw w
 
 -- what a number 0 tells
 module _ (fm : Form) (i : List ℕ) (ok : pages_number fm i ≡ 0) where
@@ -93,161 +90,119 @@ module _ (fm : Form) (i : List ℕ) (ok : pages_number fm i ≡ 0) where
 
 -- ---- the pages
 
--- what the functions gave of an image: its pages counted, n, and the used ones, u; their states, xs, base order and ranks, rs
-pub record Given (fm : Form) (i : List ℕ) (n u : ℕ) (xs : List Code) (rs : List ℕ) : Type 0 where
-  pub counted : Counted fm i n
-  pub stated : map as_state xs ≡ padded bad (first_states fm n i)
-  pub fitting : OrdersFit (map as_state xs)
-  pub base_order : ℕ
-  pub based : base_order ≡ base (map as_state xs)
-  pub ranked : rs ≡ map (rank base_order) (map as_state xs)
-  pub uses : u ≡ taken_places (take 32 rs)
-
--- the same in the rules' terms, of an image of the right size
-pub record Seen (fm : Form) (i : List ℕ) (n u : ℕ) (xs : List Code) (rs : List ℕ) : Type 0 where
-  pub sized : wrong_size fm i ≡ false
-  pub counts : n ≡ page_count fm i
-  pub long : length (states (pages fm i)) ≡ n
-  pub states_are : map as_state xs ≡ padded bad (states (pages fm i))
+-- what the functions gave of an image of n pages: their roles, rs, and how many are used, u
+pub record Seen (fm : Form) (i : List ℕ) (n u : ℕ) (rs : List Role) : Type 0 where
+  pub paged : Paged fm i n
   pub fits : OrdersFit (states (pages fm i))
-  pub ranks_are : rs ≡ ranks (base (states (pages fm i))) (states (pages fm i))
-  pub used_are : u ≡ count (used (base (states (pages fm i)))) (states (pages fm i))
-  pub apart : doubled (take 32 rs) ≡ repeats (used_orders (base (states (pages fm i))) (states (pages fm i)))
+  pub roles_are : rs ≡ map (role (base (states (pages fm i)))) (states (pages fm i))
+  pub uses : u ≡ count_by is_used_role rs
 
-module _ {fm : Form} {i : List ℕ} {n u : ℕ} {xs : List Code} {rs : List ℕ} (g : Given fm i n u xs rs) where
-  seen : (n ≡ 0 → ⊥) → Seen fm i n u xs rs
-  seen ne =
-      let w = counted_some fm i g.counted ne in
-      let sl = states_looked g.counted ne in
-      let all = states (pages fm i) in
-      let b = g.base_order in
-      let es : map as_state xs ≡ padded bad all = g.stated ∙ ap (padded bad) sl.0 in
-      let eb : b ≡ base all = g.based ∙ ap base es ∙ base_padded all in
-      let er : rs ≡ ranks (base all) all = g.ranked ∙ ap (map (rank b)) es ∙ ranks_padded b all ∙ ap (λ (x : ℕ). ranks x all) eb in
-      let few : length all ≤ 32 = omega (arith, g.counted.most, sl.1) in
-      record {
-        sized = w.0;
-        counts = w.1;
-        long = sl.1;
-        states_are = es;
-        fits = fit_padded all (subst OrdersFit es g.fitting);
-        ranks_are = er;
-        used_are = g.uses ∙ ap (λ (x : List ℕ). taken_places (take 32 x)) er ∙ count_ranks (base all) all few;
-        apart = ap (λ (x : List ℕ). doubled (take 32 x)) er ∙ repeats_ranks (base all) all few;
-      }
+rank_some : (o : Option ℕ) (k : ℕ) → rank o ≡ k + 1 → o ≡ Some k
+rank_some None k e = absurd (omega arith)
+rank_some (Some p) k e = ap Some (let q : p ≡ k = omega arith in q)
 
-  pub number_is : {r : ℕ} → r ≡ counted_number n u (doubled (take 32 rs)) → r ≡ pages_number fm i
-  number_is en =
-      by_cases (eqb n 0)
-      (λ z. let e = eqb-true n 0 z in en ∙ counted_wrong fm i n u (doubled (take 32 rs)) e (counted_none fm i g.counted e))
-      (λ z.
-      let ne = eqb-false n 0 z in
-      let s = seen ne in
-      en ∙ counted_is fm i n u (doubled (take 32 rs)) ne s.sized s.long s.used_are s.apart)
-
-  -- an image that is not refused has pages
-  pub seen_right : pages_number fm i ≡ 0 → Seen fm i n u xs rs
-  seen_right ok =
-      let w = pages_sized fm i ok in
-      let c : n ≡ page_count fm i = g.counted.count ∙ rw w in
-      seen (λ z. let l = (right_sizes fm i w).least in omega arith)
-
--- ---- of pages that are not refused
-
-module _ {fm : Form} {i : List ℕ} {n u : ℕ} {xs : List Code} {rs : List ℕ} (s : Seen fm i n u xs rs) (ok : pages_number fm i ≡ 0) where
+module _ {fm : Form} {i : List ℕ} {n u : ℕ} {rs : List Role} (s : Seen fm i n u rs) where
   abbrev all : List State
   all = states (pages fm i)
 
-  few : length all ≤ 32
-  few = omega (arith, s.long, s.counts, (right_sizes fm i s.sized).most)
+  long : length all ≡ n
+  long = length_states (pages fm i) ∙ pages_long fm i ∙ sym s.paged.count
 
-  under : Under 4194305 (map (rank (base all)) all)
-  under = ranks_under (base all) all s.fits
+  used_are : u ≡ count (used (base all)) all
+  used_are = s.uses ∙ ap (count_by is_used_role) s.roles_are ∙ count_used_roles (base all) all
 
-  some : 0 < length (used_orders (base all) all)
-  some =
-      let l = some_used all (pages_stored fm i ok) in
-      omega (arith, count_used (base all) (pages fm i), ap length (orders_used (base all) (pages fm i)))
+  pub number_is : counted_number n u (doubled (ranks rs)) ≡ pages_number fm i
+  number_is =
+      counted_is fm i n u (doubled (ranks rs)) s.paged.right long used_are
+      (ap (λ (x : List Role). doubled (ranks x)) s.roles_are ∙ repeats_roles (base all) all)
 
-  whole : take 32 rs ≡ ranks (base all) all
-  whole = ap (take 32) s.ranks_are ∙ ranks_whole (base all) all few
+  -- as many roles as pages
+  pub roles_long : length rs ≡ n
+  roles_long = rw s.roles_are (length-map all (role (base all)) ∙ long)
 
-  line_up : Lists (base all) 4194305 u (pages fm i) (ranks (base all) all)
-  line_up = lists (base all) 4194305 u (pages fm i) (pages_apart fm i ok) under s.used_are
+  -- no more are used than there are
+  pub used_few : u ≤ n
+  used_few = let l = count_by-le-length is_used_role rs in omega (arith, s.uses, roles_long)
 
-  pub used_few : u ≤ 32
-  used_few = let a = count_all (base all) all in let e = s.used_are in let l = few in omega arith
+  -- ---- of pages that are not refused
 
-  pub used_some : 0 < u
-  used_some = let l = some_used all (pages_stored fm i ok) in let e = s.used_are in omega arith
+  module _ (ok : pages_number fm i ≡ 0) where
+    under : Under 4194305 (map (rank_in (base all)) all)
+    under = ranks_under (base all) all s.fits
 
-  -- ---- the line
+    ranks_are : ranks rs ≡ map (rank_in (base all)) all
+    ranks_are = ap ranks s.roles_are ∙ ranks_of (base all) all
 
-  pub line_falls : Falls (take 32 rs) 4194305 u
-  line_falls = rw whole line_up.falls
+    some : 0 < length (used_orders (base all) all)
+    some =
+        let l = some_used all (pages_stored fm i ok) in
+        omega (arith, count_used (base all) (pages fm i), ap length (orders_used (base all) (pages fm i)))
 
-  module _ (before after : List ℕ) (e : after ≡ lined (take 32 rs) 4194305 u ++ drop u before) where
-    first : take u after ≡ lined (ranks (base all) all) 4194305 u
-    first = first_places (take 32 rs) 4194305 u before after e ∙ rw whole
+    pub used_some : 0 < u
+    used_some = let l = some_used all (pages_stored fm i ok) in let e = used_are in omega arith
 
-    there : (k : ℕ) → k < u → get_or after k 0 ≡ get_or (lined (ranks (base all) all) 4194305 u) k 0
-    there k l = sym (get_or-take u after k 0 l) ∙ ap (λ (ks : List ℕ). get_or ks k 0) first
+    -- ---- the line
 
-    last_is : get_or (lined (ranks (base all) all) 4194305 u) (u - 1) 0 ≡ active_index all
-    unfolding ranks padded
-    last_is =
-        let xs = map (rank (base all)) all in
-        lined_last (ranks (base all) all) 4194305 u used_some ∙ newest_padded xs (32 - length xs) 4194305 ∙ active_newest 4194305 all some under
+    line_up : Lists (base all) 4194305 u (pages fm i)
+    line_up = lists (base all) 4194305 u (pages fm i) (pages_apart fm i ok) under used_are
 
-    pub line_told : Lines fm i u after
-    line_told =
-        let whole_line = lined (take 32 rs) 4194305 u in
-        record {
-          long = omega (arith, ap length e, length-append whole_line (drop u before), length_lined (take 32 rs) 4194305 u);
-          within = λ k l.
-              let w = under_at (length (pages fm i)) (lined (ranks (base all) all) 4194305 u) k line_up.within
-              (omega (arith, length_lined (ranks (base all) all) 4194305 u)) in
-              omega (arith, there k l, pages_long fm i);
-          used = ap (at_places (pages fm i)) first ∙ line_up.pages;
-          last = there (u - 1) (let l = used_some in omega arith) ∙ last_is;
-        }
+    module _ {line : List ℕ} (e : line ≡ lined (ranks rs) 4194305 u) where
+      is_line : line ≡ lined (map (rank_in (base all)) all) 4194305 u
+      is_line = e ∙ ap (λ (xs : List ℕ). lined xs 4194305 u) ranks_are
 
-  -- ---- the active page
+      pub line_long : length line ≡ u
+      line_long = rw e (length_lined (ranks rs) 4194305 u)
 
-  pub order_fits : active_order all < 4194304
-  order_fits = let l = active_below 4194305 all some under in omega arith
+      pub last_is : get_or line (u - 1) 0 ≡ active_index all
+      last_is = rw is_line (lined_last (map (rank_in (base all)) all) 4194305 u used_some) ∙ active_newest 4194305 all some under
 
-  module _ (p : ℕ) (is : p ≡ active_index all) where
-    inside : p < page_count fm i
-    inside = omega (arith, active_inside 4194305 all some under, s.long, s.counts)
+      pub line_told : Lines fm i line
+      line_told =
+          record {
+            within = λ k l.
+                let w = under_at (length (pages fm i)) line k (rw is_line line_up.within) l in
+                omega (arith, pages_long fm i);
+            used = rw is_line line_up.pages;
+            last = rw line_long last_is;
+          }
 
-    pub active_fits : p * size fm + size fm ≤ length i
-    active_fits = let l = page_within (size fm) (page_count fm i) p inside in let z = (right_sizes fm i s.sized).sized in omega arith
+      pub uses_told : length line ≡ count (used (base all)) all
+      uses_told = line_long ∙ used_are
 
-    pub rank_told : get_or rs p 0 ≡ active_order all + 1
-    unfolding ranks padded
-    rank_told =
-        rw s.ranks_are
-        (getD_padded (map (rank (base all)) all) (32 - length (map (rank (base all)) all)) p 0 ∙ rw is (active_rank 4194305 all some under))
+    -- ---- the active page
 
-    pub free_told : {f : ℕ} → f ≡ free_slot (slots_in fm p i) → f ≡ free_slot (active_slots (pages fm i))
-    unfolding active_slots active_page
-    free_told e = e ∙ ap free_slot (sym (slots_are fm p i inside) ∙ ap (λ (k : ℕ). (page_at k (pages fm i)).slots) is)
+    module _ {p : ℕ} (is : p ≡ active_index all) where
+      pub active_within : p < n
+      active_within = omega (arith, active_inside 4194305 all some under, long)
 
-  -- ---- the cleared pages
+      pub active_fits : p * size fm + size fm ≤ length i
+      active_fits = let l = page_within (size fm) n p active_within in let z = s.paged.whole in omega arith
 
-  module _ {sp : List ℕ} (e : sp ≡ map spare (map as_state xs)) where
-    pub spares_told : sp ≡ spares all
-    spares_told = e ∙ ap (map spare) s.states_are ∙ spares_padded all
+      pub order_told : (d : Role) → order_in (get_or rs p d) ≡ Some (active_order all)
+      order_told d =
+          let inside : p < length rs = omega (arith, roles_long, active_within) in
+          rank_some (order_in (get_or rs p d)) (active_order all)
+          (sym (rank_at rs p d inside) ∙ ap₂ (λ (xs : List ℕ) (k : ℕ). get_or xs k 0) ranks_are is ∙ active_rank 4194305 all some under)
 
-    pub cleared_told : {c : ℕ} → c ≡ taken_places (take 32 sp) → c ≡ count is_cleared all
-    cleared_told q = q ∙ ap (λ (ys : List ℕ). taken_places (take 32 ys)) spares_told ∙ count_spares all few
+      pub free_told : {f : ℕ} → f ≡ free_slot (slots_in fm p i) → f ≡ free_slot (active_slots (pages fm i))
+      unfolding active_slots active_page
+      free_told e =
+          let inside : p < page_count fm i = omega (arith, active_within, s.paged.count) in
+          e ∙ ap free_slot (sym (slots_are fm p i inside) ∙ ap (λ (k : ℕ). (page_at k (pages fm i)).slots) is)
+
+    pub order_fits : active_order all < 4194304
+    order_fits = let l = active_below 4194305 all some under in omega arith
+
+    -- ---- the cleared pages
+
+    pub cleared_told : {c : ℕ} → c ≡ count_by is_cleared_role rs → c ≡ count is_cleared all
+    cleared_told e = e ∙ ap (count_by is_cleared_role) s.roles_are ∙ count_cleared_roles (base all) all
 
 -- ---- what is told of all pages, and of the line
 
 -- each page is used, cleared or unclean
 pub counted : {fm : Form} {i : List ℕ} {look : Look} → Told fm i look
-    → look.used + look.cleared + count (unclean (base (states (pages fm i)))) (states (pages fm i)) ≡ look.count
+    → length look.line.items + look.cleared + count (unclean (base (states (pages fm i)))) (states (pages fm i)) ≡ look.count
 counted {fm} {i} t =
     let all = states (pages fm i) in
     omega (arith, count_all (base all) all, t.uses, t.clears, length_states (pages fm i), pages_long fm i, t.counts)
@@ -275,11 +230,9 @@ module _ (fm : Form) (i : List ℕ) where
       ∙ each_append of (map told (take k line)) (told (get_or line k 0) ∷ [])
       ∙ ap (λ (xs : List A). each of (map told (take k line)) ++ xs) (append-nil (of (told (get_or line k 0))))
 
-  pub line_pages : {n : ℕ} {line : List ℕ} → Lines fm i n line
-      → map (λ (k : ℕ). page_in fm k i) (take n line) ≡ oldest_first (used_pages (base (states (pages fm i))) (pages fm i))
-  line_pages {n} {line} h =
-      let long : length (take n line) ≡ n = length-take-le n line h.long in
-      sym (placed (take n line) (λ k g. rw (get_or-take n line k 0 (omega arith)) (h.within k (omega arith)))) ∙ h.used
+  pub line_pages : {line : List ℕ} → Lines fm i line
+      → map (λ (k : ℕ). page_in fm k i) line ≡ oldest_first (used_pages (base (states (pages fm i))) (pages fm i))
+  line_pages {line} h = sym (placed line h.within) ∙ h.used
 
 -- and they lie in the image
 module _ {fm : Form} {i : List ℕ} {look : Look} (ok : pages_number fm i ≡ 0) (t : Told fm i look) where
@@ -287,14 +240,20 @@ module _ {fm : Form} {i : List ℕ} {look : Look} (ok : pages_number fm i ≡ 0)
   sizes = right_sizes fm i (pages_sized fm i ok)
 
   -- the numbers told are those of at most 32 pages
-  pub told_few : (look.count ≤ 32) × (look.used ≤ 32) × (look.cleared ≤ 32)
+  pub told_few : (look.count ≤ 32) × (length look.line.items ≤ 32) × (look.cleared ≤ 32)
   told_few = let all = counted t in let n = t.counts in let m = sizes.most in (omega arith, omega arith, omega arith)
 
-  pub told_some : 0 < look.used
+  pub told_some : 0 < length look.line.items
   told_some = let l = some_used (states (pages fm i)) (pages_stored fm i ok) in let e = t.uses in omega arith
 
-  pub line_places : (k : ℕ) → k < look.used → get_or look.line k 0 < 32
+  -- there are as many roles as pages
+  pub told_roles : length look.roles.items ≡ look.count
+  told_roles =
+      let all = states (pages fm i) in
+      omega (arith, ap length t.roles, length-map all (role (base all)), length_states (pages fm i), pages_long fm i, t.counts)
+
+  pub line_places : (k : ℕ) → k < length look.line.items → get_or look.line.items k 0 < 32
   line_places k l = omega (arith, t.line.within k l, sizes.most)
 
-  pub line_within : (k : ℕ) → k < look.used → get_or look.line k 0 * size fm + size fm ≤ length i
-  line_within k l = omega (arith, page_within (size fm) (page_count fm i) (get_or look.line k 0) (t.line.within k l), sizes.sized)
+  pub line_within : (k : ℕ) → k < length look.line.items → get_or look.line.items k 0 * size fm + size fm ≤ length i
+  line_within k l = omega (arith, page_within (size fm) (page_count fm i) (get_or look.line.items k 0) (t.line.within k l), sizes.sized)

@@ -1,97 +1,88 @@
--- The rank and the spare of a page, and those of all pages in their arrays. Assumes nothing.
-use Prim.Native.Nat.{ℕ, ◌+◌, ◌≤◌, ◌<◌}
-use mathlib.Core.Path.{◌≡◌, refl}
-use mathlib.Core.Bool.{true, false, not}
+-- The roles of pages, and the ranks that they give. Assumes nothing.
+use Prim.Native.Nat.{ℕ, zero, suc, ◌+◌, ◌<◌}
+use mathlib.Core.Path.{◌≡◌, refl, ap₂}
+use mathlib.Core.Bool.{true, false}
 use mathlib.Core.List.{List, [], ◌∷◌, map}
 use native.Mathlib.Omega.{arith}
-use lib.ListN.{length, take, get_or, length-map}
+use lib.ListN.{length, get_or}
 use lib.Dec.{eqb}
 use borrow.Author.Tests.{eqb-true, eqb-false, eq-eqb, ne_eqb}
 use Rattle.rules.specs.Page.{State, cleared, open₁, open₂, receiving, bad}
 use Rattle.rules.specs.Store.{Under, used, is_cleared, order, is_active}
-use Rattle.rules.proofs.Truth.{by_cases}
-use Rattle.survey.specs.States.{padded, OrdersFit}
-use Rattle.survey.specs.Ranks.{rank, spare, ranks, spares}
-use Rattle.survey.proofs.Padded.{padded_whole, padded_map, padded_at}
+use Rattle.rules.proofs.Truth.{by_cases, not_both}
+use Rattle.survey.specs.declared.Role.{Role}
+use Rattle.survey.specs.States.{OrdersFit}
+use Rattle.survey.specs.Roles.{role, order_in, is_used as is_used_role, is_cleared as is_cleared_role, rank, ranks}
 
--- ---- the rank
+-- that of the page at an index
+pub rank_at : (rs : List Role) (i : ℕ) (d : Role) → i < length rs → get_or (ranks rs) i 0 ≡ rank (order_in (get_or rs i d))
+rank_at [] i d l = absurd (omega arith)
+rank_at (r ∷ rs) zero d l = refl
+rank_at (r ∷ rs) (suc i) d l = rank_at rs i d (omega arith)
+
+-- ---- of a state
+
+-- its rank in a store of that base order
+abbrev pub rank_in : (base : ℕ) → State → ℕ
+rank_in b s = rank (order_in (role b s))
+
+-- the role is used or cleared exactly if the page is
+pub used_role : (b : ℕ) (s : State) → is_used_role (role b s) ≡ used b s
+unfolding role used
+used_role b (cleared wear) = refl
+used_role b (open₁ o) = by_cases (used b (open₁ o)) (λ u. rw u) (λ u. rw u)
+used_role b (open₂ o) = by_cases (used b (open₂ o)) (λ u. rw u) (λ u. rw u)
+used_role b receiving = refl
+used_role b bad = refl
+
+pub cleared_role : (b : ℕ) (s : State) → is_cleared_role (role b s) ≡ is_cleared s
+unfolding role is_cleared
+cleared_role b (cleared wear) = refl
+cleared_role b (open₁ o) = by_cases (used b (open₁ o)) (λ u. rw u) (λ u. rw u)
+cleared_role b (open₂ o) = by_cases (used b (open₂ o)) (λ u. rw u) (λ u. rw u)
+cleared_role b receiving = refl
+cleared_role b bad = refl
+
+pub rank_used : (b : ℕ) (s : State) → used b s ≡ true → rank_in b s ≡ order s + 1
+unfolding role order used
+rank_used b (cleared wear) u = not_both u refl
+rank_used b (open₁ o) u = rw u
+rank_used b (open₂ o) u = rw u
+rank_used b receiving u = not_both u refl
+rank_used b bad u = not_both u refl
+
+pub rank_unused : (b : ℕ) (s : State) → used b s ≡ false → rank_in b s ≡ 0
+unfolding role used
+rank_unused b (cleared wear) u = refl
+rank_unused b (open₁ o) u = rw u
+rank_unused b (open₂ o) u = rw u
+rank_unused b receiving u = refl
+rank_unused b bad u = refl
 
 module _ (b : ℕ) (s : State) where
-  pub rank_used : used b s ≡ true → rank b s ≡ order s + 1
-  unfolding rank
-  rank_used u = rw u
-
-  pub rank_unused : used b s ≡ false → rank b s ≡ 0
-  unfolding rank
-  rank_unused u = rw u
-
-  pub rank_zero : eqb (rank b s) 0 ≡ not (used b s)
-  rank_zero =
-      by_cases (used b s) (λ u. let e = rank_used u in rw u (ne_eqb (rank b s) 0 (λ z. omega arith)))
-      (λ u. rw u (eq-eqb (rank b s) 0 (rank_unused u)))
-
   -- the rank o + 1 is that of the used page of order o
-  pub rank_is : (o : ℕ) → eqb (o + 1) (rank b s) ≡ is_active b o s
+  pub rank_is : (o : ℕ) → eqb (o + 1) (rank_in b s) ≡ is_active b o s
   unfolding is_active
   rank_is o =
       by_cases (used b s)
       (λ u.
+      let r = rank_used b s u in
       by_cases (eqb (order s) o)
-      (λ e. let q = eqb-true (order s) o e in let r = rank_used u in rw (u, e) (eq-eqb (o + 1) (rank b s) (omega arith)))
-      (λ e. let r = rank_used u in rw (u, e) (ne_eqb (o + 1) (rank b s) (λ z. eqb-false (order s) o e (omega arith)))))
-      (λ u. let r = rank_unused u in rw u (ne_eqb (o + 1) (rank b s) (λ z. omega arith)))
+      (λ e. let q = eqb-true (order s) o e in rw (u, e) (eq-eqb (o + 1) (rank_in b s) (omega arith)))
+      (λ e. rw (u, e) (ne_eqb (o + 1) (rank_in b s) (λ z. eqb-false (order s) o e (omega arith)))))
+      (λ u. let r = rank_unused b s u in rw u (ne_eqb (o + 1) (rank_in b s) (λ z. omega arith)))
 
-  rank_below : order s < 4194304 → rank b s < 4194305
-  rank_below l = by_cases (used b s) (λ u. let r = rank_used u in omega arith) (λ u. let r = rank_unused u in omega arith)
+  rank_below : order s < 4194304 → rank_in b s < 4194305
+  rank_below l = by_cases (used b s) (λ u. let r = rank_used b s u in omega arith) (λ u. let r = rank_unused b s u in omega arith)
 
-rank_bad : (b : ℕ) → rank b bad ≡ 0
-unfolding rank used
-rank_bad b = refl
+-- ---- of all states
 
--- ---- the spare
-
-pub spare_zero : (s : State) → eqb (spare s) 0 ≡ not (is_cleared s)
-unfolding spare is_cleared
-spare_zero (cleared n) = ne_eqb (n + 1) 0 (λ e. omega arith)
-spare_zero (open₁ o) = refl
-spare_zero (open₂ o) = refl
-spare_zero receiving = refl
-spare_zero bad = refl
-
-spare_bad : spare bad ≡ 0
-unfolding spare
-spare_bad = refl
-
--- ---- those of all pages
-
-module _ (b : ℕ) (ss : List State) where
-  pub ranks_padded : map (rank b) (padded bad ss) ≡ ranks b ss
-  unfolding ranks
-  ranks_padded = padded_map (rank b) (rank_bad b) ss
-
-  pub ranks_whole : length ss ≤ 32 → take 32 (ranks b ss) ≡ ranks b ss
-  unfolding ranks
-  ranks_whole h = padded_whole (map (rank b) ss) (omega (arith, length-map ss (rank b)))
-
-  pub rank_at : (k : ℕ) → get_or (ranks b ss) k 0 ≡ rank b (get_or ss k bad)
-  unfolding ranks
-  rank_at k = padded_at (rank b) (rank_bad b) ss k
-
-module _ (ss : List State) where
-  pub spares_padded : map spare (padded bad ss) ≡ spares ss
-  unfolding spares
-  spares_padded = padded_map spare spare_bad ss
-
-  pub spares_whole : length ss ≤ 32 → take 32 (spares ss) ≡ spares ss
-  unfolding spares
-  spares_whole h = padded_whole (map spare ss) (omega (arith, length-map ss spare))
-
-  pub spare_at : (k : ℕ) → get_or (spares ss) k 0 ≡ spare (get_or ss k bad)
-  unfolding spares
-  spare_at k = padded_at spare spare_bad ss k
+pub ranks_of : (b : ℕ) (ss : List State) → ranks (map (role b) ss) ≡ map (rank_in b) ss
+ranks_of b [] = refl
+ranks_of b (s ∷ ss) = ap₂ (λ (r : ℕ) (rs : List ℕ). r ∷ rs) refl (ranks_of b ss)
 
 -- every rank is at most the limit of orders + 1
-pub ranks_under : (b : ℕ) (ss : List State) → OrdersFit ss → Under 4194305 (map (rank b) ss)
+pub ranks_under : (b : ℕ) (ss : List State) → OrdersFit ss → Under 4194305 (map (rank_in b) ss)
 unfolding OrdersFit Under
 ranks_under b [] h = tt
 ranks_under b (s ∷ ss) h = (rank_below b s h.0, ranks_under b ss h.1)

@@ -5,7 +5,8 @@ use mathlib.Core.Path.{◌≡◌, refl, sym, ap, ◌∙◌}
 use mathlib.Core.List.{List, [], ◌∷◌}
 use native.Mathlib.Omega.{arith}
 use lib.ListN.{length, take, drop, length-drop}
-use lib.Seq.{take-nil, take-take, take_all, drop-drop}
+use lib.Seq.{take-take, take_all, drop-drop}
+use Rattle.std.proofs.lemmas.List.{drop-take}
 use Rattle.rules.specs.Flash.{bytes_at}
 use Rattle.rules.specs.Word.{Word, word, words}
 use Rattle.rules.specs.Page.{Form, word_count, size, Page, page, slots}
@@ -44,23 +45,16 @@ take_words (suc k) (a ∷ b ∷ []) = rw (next_words k)
 take_words (suc k) (a ∷ b ∷ c ∷ []) = rw (next_words k)
 take_words (suc k) (a ∷ b ∷ c ∷ d ∷ s) = rw (next_words k) (ap (λ (ws : List Word). word a b c d ∷ ws) (take_words k s))
 
-drop_take : {A : Type 0} (m n : ℕ) (l : List A) → drop m (take n l) ≡ take (n - m) (drop m l)
-drop_take zero n l = let e : n ≡ n - 0 = omega arith in ap (λ (x : ℕ). take x l) e
-drop_take (suc m) zero l = let e : 0 ≡ 0 - suc m = omega arith in ap (λ (x : ℕ). take x (drop (suc m) l)) e
-drop_take (suc m) (suc n) [] = sym (take-nil (suc n - suc m))
-drop_take (suc m) (suc n) (x ∷ l) =
-    let e : n - m ≡ suc n - suc m = omega arith in drop_take m n l ∙ ap (λ (y : ℕ). take y (drop m l)) e
-
 -- the slots are the words of the bytes behind the header
 slots_from : (fm : Form) (k : ℕ) (i : List ℕ) → slots_in fm k i ≡ words (take (4 * fm.slot_count) (drop (k * size fm + 12) i))
 unfolding slots_in page bytes_at
 slots_from fm k i =
-    sym (slots_behind (take (size fm) (drop (k * size fm) i)))
-    ∙ ap words (drop_take 12 (size fm) (drop (k * size fm) i) ∙ ap (λ (m : ℕ). take m (drop 12 (drop (k * size fm) i))) (behind fm.slot_count)
+    let part = drop (k * size fm) i in
+    let sized : size fm ≡ 12 + 4 * fm.slot_count = omega arith in
+    sym (slots_behind (take (size fm) part))
+    ∙ ap words
+    (ap (λ (m : ℕ). drop 12 (take m part)) sized ∙ drop-take 12 (4 * fm.slot_count) part
     ∙ ap (take (4 * fm.slot_count)) (drop-drop 12 (k * size fm) i))
-  where
-    behind : (n : ℕ) → 4 * suc (suc (suc n)) - 12 ≡ 4 * n
-    behind n = omega arith
 
 -- the first n of them
 pub slots_part : (fm : Form) (k n : ℕ) (i : List ℕ) (from to : ℕ) → n ≤ fm.slot_count → from ≡ k * size fm + 12 → to ≡ from + n * 4

@@ -1,5 +1,6 @@
 -- Definitions that the contracts of this crate cite.
+pub mod Refusals
 pub mod States
-pub mod Ranks
+pub mod Roles
 pub mod Places
 pub mod Look

@@ -1,13 +1,14 @@
 -- The words of a list of bytes, one by one: the rules cut them all at once, the code reads one at its offset. Assumes nothing.
 use Prim.Native.Nat.{ℕ, zero, suc, ◌+◌, ◌*◌, ◌/◌, ◌≤◌}
-use mathlib.Core.Path.{◌≡◌, refl}
-use mathlib.Core.List.{List, [], ◌∷◌, ◌++◌}
+use mathlib.Core.Path.{◌≡◌, refl, ap}
+use mathlib.Core.List.{List, [], ◌∷◌, ◌++◌, map}
 use native.Mathlib.Omega.{arith}
 use native.Mathlib.Nat.{add_assoc}
 use native.Mathlib.Numerals.{add-one}
 use lib.ListN.{length, get_or, take, drop}
 use lib.Seq.{get_or-drop, take-suc, take_all}
-use Rattle.rules.specs.Word.{words}
+use Rattle.std.specs.Simd.{first_chunks}
+use Rattle.rules.specs.Word.{word, words}
 use Rattle.rules.specs.Page.{blank_word}
 use Rattle.rules.proofs.Cut.{next_words}
 use Rattle.words.specs.Read.{word_in}
@@ -61,3 +62,14 @@ drop_words (suc k) (a ∷ []) = rw (next_words k)
 drop_words (suc k) (a ∷ b ∷ []) = rw (next_words k)
 drop_words (suc k) (a ∷ b ∷ c ∷ []) = rw (next_words k)
 drop_words (suc k) (a ∷ b ∷ c ∷ d ∷ s) = rw (next_words k) (drop_words k s)
+
+-- the words, cut as the code cuts them
+pub fours_are : (s : List ℕ) → map (λ b. word_in b 0) (first_chunks 4 (length s / 4) s) ≡ words s
+unfolding words word_in
+fours_are [] = refl
+fours_are (a ∷ []) = refl
+fours_are (a ∷ b ∷ []) = refl
+fours_are (a ∷ b ∷ c ∷ []) = refl
+fours_are (a ∷ b ∷ c ∷ d ∷ s) =
+    let e : length (a ∷ b ∷ c ∷ d ∷ s) / 4 ≡ suc (length s / 4) = omega arith in
+    rw e (ap (λ ws. word a b c d ∷ ws) (fours_are s))

@@ -2,21 +2,29 @@
 
 #![tactic(auto)]
 
-ghost use Rattle.std.specs.Prelude.{◌≡◌, ◌+◌, ◌≤◌, ◌<◌, length, false};
-ghost use Rattle.rules.specs.Word.{Word as Bytes, zeros, check, sound, blank, second_blank, low16, low24, mark, slot};
+ghost use Rattle.std.specs.Prelude.{◌≡◌, ◌+◌, ◌/◌, ◌≤◌, ◌<◌, length, map, false};
+ghost use Rattle.rules.specs.Word.{Word as Bytes, words, zeros, check, sound, blank, second_blank, low16, low24, mark, slot};
 ghost use Rattle.rules.specs.Word.{checked, wear_word, number_word, opening_word, done_word, record_word, mark_word};
 ghost use Rattle.words.specs.Read.{as_word, as_slot, word_in};
 
 // W11. No record has this address.
-pub const NO_ADDRESS: u16 = 65535;
+pub const NO_ADDRESS: u16 = u16::MAX;
 
-#[derive(Clone, Copy)]
+#[derive(Clone, Copy, PartialEq, Eq)]
 pub struct Word {
     pub a: u8,
     pub b: u8,
     pub c: u8,
     pub d: u8,
 }
+
+// W1. What erased flash reads.
+const BLANK: Word = Word {
+    a: 255,
+    b: 255,
+    c: 255,
+    d: 255,
+};
 
 // How many 0 bits a half of a byte has, from 0000 to 1111. Proved once, of the whole table (`rule` of Table.antt): each place
 // has the zero count of its index, of four bits.
@@ -46,32 +54,42 @@ pub fn is_sound(w: Word) -> bool
     w.d == check(w.a, w.b, w.c)
 }
 
+#[tactic(auto, unfolding(rules::specs::Word::blank))]
 pub fn is_blank(w: Word) -> bool
     ensures { result ≡ blank (as_word w) }
 {
-    if w.a != 255 {
-        return false;
-    }
-    if w.b != 255 {
-        return false;
-    }
-    if w.c != 255 {
-        return false;
-    }
-    w.d == 255
+    w == BLANK
 }
 
 // W13. Whether the second half is 65,535.
+#[tactic(auto, unfolding(rules::specs::Word::second_blank))]
 fn is_second_blank(w: Word) -> bool
     ensures { result ≡ second_blank (as_word w) }
 {
-    if w.c != 255 {
-        return false;
+    w.c == 255 && w.d == 255
+}
+
+impl From<[u8; 4]> for Word {
+    #[tactic(auto, unfolding(crate::specs::Read::word_in))]
+    fn from(bytes: [u8; 4]) -> Word
+        ensures { as_word result ≡ word_in bytes 0 }
+    {
+        let [a, b, c, d] = bytes;
+        Word { a, b, c, d }
     }
-    w.d == 255
+}
+
+// The bytes of the words that bytes are, four for each.
+#[tactic(auto, using(crate::proofs::Parts::fours_are))]
+pub fn fours(s: &[u8]) -> &[[u8; 4]]
+    ensures value { map (λ b. word_in b 0) result.now ≡ words s.now }
+    ensures len { length result.now ≡ length s.now / 4 }
+{
+    s.as_chunks::<4>().0
 }
 
 // The word that begins at an offset of the bytes.
+#[tactic(auto, unfolding(crate::specs::Read::word_in))]
 pub fn word_at(s: &[u8], at: usize) -> Word
     requires { at + 4 ≤ length s.now }
     ensures { as_word result ≡ word_in s.now at }
@@ -96,10 +114,12 @@ pub fn checked(a: u8, b: u8, c: u8) -> Word
     }
 }
 
+#[tactic(auto, unfolding(rules::specs::Word::record_word))]
 pub fn record_word(address: u16, value: u8) -> Word
     ensures { as_word result ≡ record_word address value }
 {
-    checked((address % 256) as u8, (address / 256) as u8, value)
+    let [low, high] = address.to_le_bytes();
+    checked(low, high, value)
 }
 
 pub fn mark_word(value: u8) -> Word
@@ -108,19 +128,24 @@ pub fn mark_word(value: u8) -> Word
     record_word(NO_ADDRESS, value)
 }
 
+#[tactic(auto, unfolding(rules::specs::Word::wear_word))]
 pub fn wear_word(edition: u8, wear: u16) -> Word
     ensures { as_word result ≡ wear_word edition wear }
 {
-    checked((wear % 256) as u8, (wear / 256) as u8, edition)
+    let [low, high] = wear.to_le_bytes();
+    checked(low, high, edition)
 }
 
+#[tactic(auto, unfolding(rules::specs::Word::number_word))]
 pub fn number_word(n: u32) -> Word
     requires { n < 16777216 }
     ensures { as_word result ≡ number_word n }
 {
-    checked((n % 256) as u8, (n / 256 % 256) as u8, (n / 65536) as u8)
+    let [low, middle, high, _] = n.to_le_bytes();
+    checked(low, middle, high)
 }
 
+// The kind is a number, as the word has it: of any below 4 this is promised.
 pub fn opening_word(kind: u8, order: u32) -> Word
     requires { (kind < 4) × (order < 4194304) }
     ensures { as_word result ≡ opening_word kind order }
@@ -135,20 +160,22 @@ pub fn done_word(order: u32) -> Word
     number_word(order * 4 + 3)
 }
 
+#[tactic(auto, unfolding(rules::specs::Word::low16))]
 pub fn low16(w: Word) -> u16
     ensures { result ≡ low16 (as_word w) }
 {
-    w.a as u16 + 256 * (w.b as u16)
+    u16::from_le_bytes([w.a, w.b])
 }
 
+#[tactic(auto, unfolding(rules::specs::Word::low24))]
 pub fn low24(w: Word) -> u32
     ensures { result ≡ low24 (as_word w) }
 {
-    w.a as u32 + 256 * (w.b as u32) + 65536 * (w.c as u32)
+    u32::from_le_bytes([w.a, w.b, w.c, 0])
 }
 
 // What a word is in a slot: a record, a mark that opens or closes a group of so many records, or neither.
-#[derive(Clone, Copy)]
+#[derive(Clone, Copy, PartialEq, Eq)]
 pub enum Slot {
     Record,
     Opens(u8),
@@ -159,23 +186,16 @@ pub enum Slot {
 }
 
 // W14. Marks: what a sound word without an address is, by its value.
+#[tactic(auto, using(rules::proofs::Conditions::mark_zero, rules::proofs::Conditions::mark_opens, rules::proofs::Conditions::mark_closes, rules::proofs::Conditions::mark_between, rules::proofs::Conditions::mark_beyond))]
 fn mark(value: u8) -> Slot
     ensures { (w : Bytes) → as_slot w result ≡ mark value }
 {
-    if value == 0 {
-        return Slot::Closes(0);
+    match value {
+        0 => Slot::Closes(0),
+        1..=8 => Slot::Opens(value),
+        129..=136 => Slot::Closes(value - 128),
+        _ => Slot::Spoiled,
     }
-    let is_opening = value <= 8;
-    if is_opening {
-        return Slot::Opens(value);
-    }
-    if value < 129 {
-        return Slot::Spoiled;
-    }
-    if 136 < value {
-        return Slot::Spoiled;
-    }
-    Slot::Closes(value - 128)
 }
 
 // What a word without an address is, which is not blank: a mark, if the edition has groups.
@@ -193,7 +213,8 @@ fn without_address(w: Word, edition: u8) -> Slot
     Slot::Spoiled
 }
 
-// What a word is in a slot of a page of that edition: no other code tells them apart. The cheap test comes first.
+// What a word is in a slot of a page of that edition: no other code tells them apart. The cheap test comes first. The edition is a
+// number here and above, and not an enum: it is compared with a byte of the flash, and this is promised of any.
 pub fn in_slot(w: Word, edition: u8) -> Slot
     ensures { as_slot (as_word w) result ≡ slot edition (as_word w) }
 {

@@ -7,6 +7,7 @@ use mathlib.Core.Option.{Option}
 use native.Mathlib.Omega.{arith}
 use lib.ListN.{length, get_or, set, take, get_or-map}
 use lib.Seq.{map-set_same}
+use Rattle.std.proofs.lemmas.List.{map-set}
 use Rattle.rules.specs.Flash.{Half, Step, program, erase, after, run}
 use Rattle.rules.specs.Word.{Word, word, word_steps}
 use Rattle.rules.specs.Page.{Form, word_count, size, wear_part, wear_in, Page, page, slot_place}
@@ -16,7 +17,6 @@ use Rattle.rules.specs.Call.{cut, first_pages}
 use Rattle.rules.proofs.Shape.{Within, target, page_after, store_after}
 use Rattle.rules.proofs.Renewing.{renewals_set}
 use Rattle.rules.proofs.Cut.{cut_after, length_after}
-use Rattle.survey.proofs.Arrays.{map_set}
 
 -- ---- steps that program words of one page
 
@@ -57,7 +57,7 @@ greatest_set : (edition p : ℕ) (x : List Word) (F : List (List Word)) → wear
 unfolding greatest_wear page
 greatest_set edition p x F e =
     let worn : Page → ℕ = λ q. or_value q.wear 0 in
-    ap (λ (ps : List Page). greatest (map worn ps)) (map_set (page edition) F p x)
+    ap (λ (ps : List Page). greatest (map worn ps)) (map-set (page edition) F p x)
     ∙ ap greatest (map-set_same worn (map (page edition) F) p (page edition x) (page edition [])
     (ap (λ (w : Option ℕ). or_value w 0) e ∙ ap worn (sym (get_or-map (page edition) F p []))))
 

@@ -1,9 +1,8 @@
--- Laws of the code's own, for its proofs; `Ways` has one that the library's demands cite.
-mod Formatting
-mod Picks
-mod Parts
+-- Laws of the code's own, for its proofs.
+mod Outcomes
 mod Changes
 mod Kept
+mod Formatting
 mod Recovering
 mod Moving
-pub mod Ways
+mod Ways

@@ -1,33 +1,30 @@
 -- A move in the terms of the code: how many steps it has, and that its renewals are those of the image at the call, since no
 -- step before them works on another page. Assumes nothing.
-use Prim.Native.Nat.{ℕ, zero, suc, ◌+◌, ◌*◌, ◌≤◌, ◌<◌}
+use Prim.Native.Nat.{ℕ, ◌+◌, ◌*◌, ◌≤◌, ◌<◌}
 use mathlib.Core.Path.{◌≡◌, refl, sym, ap, ◌∙◌, subst}
-use mathlib.Core.Bool.{Bool, false, not}
+use mathlib.Core.Bool.{false, not}
 use mathlib.Core.List.{List, ◌++◌, map}
 use native.Mathlib.Omega.{arith}
-use lib.ListN.{length, get_or, take, length-append, length-map}
-use lib.Seq.{take-suc, take-length}
+use lib.ListN.{length, take, length-append, length-map}
 use borrow.Author.Tests.{eq-eqb}
 use Rattle.rules.specs.Flash.{Step}
 use Rattle.rules.specs.Word.{opening_word, done_word, word_steps}
-use Rattle.rules.specs.Page.{Form, word_count, size, page, opening_place, done_place}
-use Rattle.rules.specs.Store.{Setting, setting, Rising, settings, journal, count}
-use Rattle.rules.specs.Steps.{renew_picked, other, but_all, move_records, record_of, slots_steps, fill_steps, move_steps}
-use Rattle.rules.specs.Call.{cut, first_pages, is_new}
+use Rattle.rules.specs.Page.{Form, word_count, size, Page, page, opening_place, done_place}
+use Rattle.rules.specs.Store.{Setting, address_of, settings, journal, count}
+use Rattle.rules.specs.Steps.{renew_picked, other, but_all, record_of, slots_steps, fill_steps, move_steps}
+use Rattle.rules.specs.Call.{cut, first_pages, repeats, is_new, new_in, no_room}
 use Rattle.rules.proofs.Lengths.{move_long}
 use Rattle.rules.proofs.Cut.{cut_length}
 use Rattle.rules.proofs.Held.{new_many, room_for}
 use Rattle.rules.proofs.Settings.{settings_rising, but_all_length}
-use Rattle.settings.specs.Held.{addresses_of, values_of}
-use Rattle.settings.proofs.Tables.{setting_at}
+use Rattle.pages.specs.Read.{as_form}
+use Rattle.steps.specs.declared.Steps.{Steps}
+use Rattle.steps.specs.Done.{Done}
 use Rattle.steps.specs.Picked.{picked_steps}
-use Rattle.steps.specs.Copied.{rows, copied}
-use Rattle.writing.specs.Picks.{picked}
-use Rattle.writing.specs.Plans.{Part, Tabled}
-use Rattle.writing.proofs.Picks.{picked_at}
-use Rattle.writing.proofs.Parts.{part_then}
+use Rattle.steps.specs.Copied.{copied}
+use Rattle.steps.proofs.Doing.{done_then}
+use Rattle.writing.specs.Plans.{Tabled}
 use Rattle.writing.proofs.Kept.{OnPage, on_take, on_append, on_word, on_slots, renewing_kept}
-use Rattle.writing.proofs.Recovering.{picked_agree}
 
 on_fill : (m p o : ℕ) (cs : List Setting) → 3 + length cs ≤ m → OnPage m p (fill_steps p o cs)
 unfolding fill_steps
@@ -39,76 +36,54 @@ on_fill m p o cs l =
     (on_slots m p 0 (map record_of cs) (omega (arith, length-map cs record_of))))
     (on_word m p done_place (done_word o) (omega arith) (omega arith))
 
-module _ (fm : Form) (n p : ℕ) where
-  abbrev others : List ℕ → List Step
-  others i = renew_picked fm.edition (λ j s. other p j) (first_pages fm n i)
-
-  picked_others : (i : List ℕ) → picked_steps fm n (picked (other p) n) i ≡ others i
-  unfolding picked_steps other
-  picked_others i =
-      picked_agree fm.edition (λ k s. get_or (picked (other p) n) k false) (λ j s. other p j) (first_pages fm n i)
-      (λ j g. picked_at (other p) n j (omega (arith, length-map (cut (size fm) n i) (page fm.edition), cut_length (size fm) n i)))
-
 itself : (p : ℕ) → other p p ≡ false
 unfolding other
 itself p = ap not (eq-eqb p p refl)
 
 -- ---- what a move leaves: the page is filled, and then the others are renewed
 
-pub moved : (fm : Form) (p o n : ℕ) {allowance left rest : ℕ} (cs : List Setting) {i j k : List ℕ} (picks : List Bool) → p < n
-    → length i ≡ n * size fm → length cs ≤ fm.slot_count
-    → Part fm allowance (fill_steps p o cs) i j left → picks ≡ picked (other p) n → Part fm left (picked_steps fm n picks j) j k rest
-    → Part fm allowance (move_steps fm.edition p o cs (first_pages fm n i)) i k rest
-unfolding move_steps
-moved fm p o n {allowance} {left} {rest} cs {i} {j} {k} picks inside sized few filled is renewed =
-    let ss = take allowance (fill_steps p o cs) in
-    let same : picked_steps fm n picks j ≡ renew_picked fm.edition (λ j s. other p j) (first_pages fm n i) =
-    ap (λ (xs : List Bool). picked_steps fm n xs j) is ∙ picked_others fm n p j ∙ ap (others fm n p) filled.image
-    ∙ renewing_kept fm n p inside (other p) (itself p) ss i
-    (on_take (word_count fm) p allowance (fill_steps p o cs) (on_fill (word_count fm) p o cs (omega arith))) sized in
-    part_then filled (subst (λ (xs : List Step). Part fm left xs j k rest) same renewed)
+pub moved : (p o n : ℕ) (cs : List Setting) {s t u : Steps} → p < n → length s.image.now ≡ n * size (as_form s.form) → length cs ≤ s.form.slots
+    → Done s (fill_steps p o cs) t → Done t (picked_steps (as_form t.form) n (other p) t.image.now) u
+    → Done s (move_steps s.form.edition p o cs (first_pages (as_form s.form) n s.image.now)) u
+unfolding move_steps picked_steps
+moved p o n cs {s} {t} {u} inside sized few filled renewed =
+    let fm = as_form s.form in
+    let ss = take s.left (fill_steps p o cs) in
+    let others : Form → List ℕ → List Step = λ f j. renew_picked f.edition (λ k s. other p k) (first_pages f n j) in
+    let same : others (as_form t.form) t.image.now ≡ others fm s.image.now =
+    ap (λ f. others (as_form f) t.image.now) filled.same_form ∙ ap (others fm) filled.image
+    ∙ renewing_kept fm n p inside (other p) (itself p) ss s.image.now
+    (on_take (word_count fm) p s.left (fill_steps p o cs) (on_fill (word_count fm) p o cs (omega arith))) sized in
+    done_then filled (subst (λ (xs : List Step). Done t xs u) same renewed)
 
 -- ---- how many records a move has
 
-rows_take : (t : List Setting) (n : ℕ) → n ≤ length t → rows (addresses_of t) (values_of t) n ≡ take n t
-unfolding rows
-rows_take t zero l = refl
-rows_take t (suc n) l =
-    rw (rows_take t n (omega arith), ← setting_at t n (setting 0 0) (omega arith)) (sym (take-suc t n (setting 0 0) (omega arith)))
-
-module _ {xs ys : List ℕ} {held : ℕ} {rs : List Setting} (h : Tabled xs ys held rs) where
+module _ (rs : List Setting) (ps : List Page) (distinct : repeats (map address_of rs) ≡ false) where
   abbrev table : List Setting
-  table = settings h.pages
+  table = settings ps
 
-  rising : Rising table
+  copies_long : length (copied table rs) ≡ length table + count (is_new ps) rs
   unfolding settings
-  rising = settings_rising (journal h.pages)
+  copies_long =
+      let m = new_many rs ps in
+      let b = but_all_length rs table (settings_rising (journal ps)) distinct in
+      omega (arith, length-append (but_all rs table) rs)
 
-  rows_table : rows xs ys held ≡ table
-  rows_table =
-      rw (h.holds.few_addresses h.few, h.holds.few_values h.few, h.holds.few_held h.few)
-      (rows_take table (length table) (omega arith) ∙ take-length table)
+  copies_within : no_room rs ps ≡ false → length (copied table rs) ≤ 192
+  copies_within room = omega (arith, copies_long, new_many rs ps, room_for rs ps room)
 
-  pub copied_table : copied xs ys held rs ≡ move_records rs table
-  unfolding copied
-  copied_table = ap (move_records rs) rows_table
-
-  copied_long : length (copied xs ys held rs) ≡ length (but_all rs table) + length rs
-  copied_long = ap length copied_table ∙ length-append (but_all rs table) rs
-
+module _ {held rs : List Setting} (h : Tabled held rs) where
   -- all that is held, and what is new
-  pub copies_many : {new : ℕ} → new ≡ count (is_new h.pages) rs → held + new ≡ length (copied xs ys held rs)
-  copies_many e =
-      let m = new_many rs h.pages in
-      let b = but_all_length rs table rising h.distinct in
-      omega (arith, copied_long, h.holds.few_held h.few)
+  pub copies_many : {new : ℕ} → new ≡ new_in rs h.pages → length held + new ≡ length (copied held rs)
+  copies_many {new} e =
+      rw e (subst (λ (t : List Setting). length t + new_in rs h.pages ≡ length (copied t rs)) (sym h.holds) (sym (copies_long rs h.pages h.distinct)))
 
-  pub copies_few : length (copied xs ys held rs) ≤ 192
-  copies_few = let b = but_all_length rs table rising h.distinct in omega (arith, copied_long, room_for rs h.pages h.room)
+  pub copies_few : length (copied held rs) ≤ 192
+  copies_few = subst (λ (t : List Setting). length (copied t rs) ≤ 192) (sym h.holds) (copies_within rs h.pages h.distinct h.room)
 
   -- all the steps of a move, by the records counted
-  pub move_total : (fm : Form) (p o n copies : ℕ) (i : List ℕ) → p < n → copies ≡ length (copied xs ys held rs)
-      → length (move_steps fm.edition p o (copied xs ys held rs) (first_pages fm n i)) ≡ 2 * copies + 3 * n + 1
+  pub move_total : (fm : Form) (p o n copies : ℕ) (i : List ℕ) → p < n → copies ≡ length (copied held rs)
+      → length (move_steps fm.edition p o (copied held rs) (first_pages fm n i)) ≡ 2 * copies + 3 * n + 1
   move_total fm p o n copies i l e =
       let long : length (first_pages fm n i) ≡ n = length-map (cut (size fm) n i) (page fm.edition) ∙ cut_length (size fm) n i in
-      omega (arith, move_long fm.edition p o (copied xs ys held rs) (first_pages fm n i) (omega arith))
+      omega (arith, move_long fm.edition p o (copied held rs) (first_pages fm n i) (omega arith))

@@ -1,41 +1,45 @@
 -- Renewals by which pages are picked, and recovery in the terms of the code. Assumes nothing.
-use Prim.Native.Nat.{ℕ, suc, ◌+◌, ◌*◌, ◌≤◌, ◌<◌, min, max}
+use Prim.Native.Nat.{ℕ, suc, ◌+◌, ◌-◌, ◌*◌, ◌≤◌, ◌<◌, max}
 use mathlib.Core.Path.{◌≡◌, refl, sym, ap, ◌∙◌, subst}
-use mathlib.Core.Bool.{Bool, true, false, cond}
-use mathlib.Core.List.{List, [], ◌∷◌, ◌++◌}
+use mathlib.Core.Bool.{Bool, true, false}
+use mathlib.Core.List.{List, [], ◌∷◌, append-nil}
 use native.Mathlib.Omega.{arith}
-use lib.ListN.{length, get_or, take, length-take, length-append}
-use lib.Dec.{leb}
-use Rattle.rules.specs.Flash.{Step, run, AllAllowed}
-use Rattle.rules.specs.Word.{mark_word}
-use Rattle.rules.specs.Page.{Form, word_count, size, State, bad, Page}
-use Rattle.rules.specs.Store.{states, base, used, count, is_active, index_of, active_order, active_index, open_group}
+use lib.ListN.{length, get_or, take, length-append, length-map}
+use Rattle.std.proofs.lemmas.List.{get_or-map}
+use Rattle.rules.specs.Flash.{Step}
+use Rattle.rules.specs.Word.{Word, mark_word, word_steps}
+use Rattle.rules.specs.Page.{Form, word_count, size, State, cleared, open₁, open₂, receiving, bad, Page}
+use Rattle.rules.specs.Store.{Setting, states, base, used, is_cleared, count, is_active, index_of, active_order, active_index}
 use Rattle.rules.specs.Steps.{renewed_wear, greatest_wear, renewals, renew_each, renew_picked, unclean}
 use Rattle.rules.specs.Steps.{slots_steps, abandon_steps, recovery_steps}
-use Rattle.rules.specs.Call.{Roomy, first_pages, pages, store_number, recover}
+use Rattle.rules.specs.Call.{first_pages, pages}
 use Rattle.rules.proofs.Truth.{by_cases, and_left}
-use Rattle.rules.proofs.Plans.{allowed_take}
 use Rattle.rules.proofs.Stores.{length_states}
 use Rattle.rules.proofs.Healthy.{accepted_healthy, recovery_allowed}
 use Rattle.rules.proofs.Ready.{size_right, right_sizes, Sizes, active_within}
-use Rattle.rules.proofs.Answers.{stepped_refused, stepped_done}
 use Rattle.rules.proofs.Cut.{pages_long}
-use Rattle.rules.proofs.Lengths.{each_long, slots_long}
+use Rattle.rules.proofs.Lengths.{each_long, word_length}
+use Rattle.pages.specs.Read.{as_form}
+use Rattle.survey.specs.declared.Role.{Role}
+use Rattle.survey.specs.declared.Role.TheVariants.{Used, Cleared, Unclean}
 use Rattle.survey.specs.declared.Look.{Look}
-use Rattle.survey.specs.Ranks.{ranks, spares}
-use Rattle.survey.specs.Look.{Told}
+use Rattle.survey.specs.Roles.{role}
+use Rattle.survey.proofs.Looking.{counted}
+use Rattle.steps.specs.declared.Steps.{Steps}
+use Rattle.steps.specs.Done.{May, Done}
 use Rattle.steps.specs.Picked.{picked_steps}
+use Rattle.steps.proofs.Doing.{done_nothing, done_then, may_first}
+use Rattle.store.specs.declared.Store.{Store}
+use Rattle.store.specs.Opened.{Holding}
 use Rattle.choosing.proofs.Ways.{open_slot}
-use Rattle.writing.specs.Picks.{picked, neither_at}
-use Rattle.writing.specs.Plans.{Part}
-use Rattle.writing.proofs.Picks.{unclean_pick}
-use Rattle.writing.proofs.Parts.{part_first, part_then}
-use Rattle.writing.proofs.Kept.{OnPage, on_take, on_slots, renewing_kept}
+use Rattle.writing.specs.Plans.{Does}
+use Rattle.writing.proofs.Outcomes.{may_all}
+use Rattle.writing.proofs.Kept.{OnPage, on_take, on_word, renewing_kept}
 
 -- ---- renewals, by which pages are picked
 
 -- two tests that agree on the pages there are pick the same
-pub renewals_agree : (p q : ℕ → State → Bool) (g k : ℕ) (ps : List Page)
+renewals_agree : (p q : ℕ → State → Bool) (g k : ℕ) (ps : List Page)
     → ((j : ℕ) → j < length ps → p (k + j) (get_or (states ps) j bad) ≡ q (k + j) (get_or (states ps) j bad)) → renewals p g k ps ≡ renewals q g k ps
 unfolding renewals states
 renewals_agree p q g k [] h = refl
@@ -48,7 +52,7 @@ renewals_agree p q g k (x ∷ ps) h =
     λ m. renewals_agree p q m (suc k) ps (λ j l. subst (agree (get_or (states ps) j bad)) (next j) (h (suc j) (omega arith))) in
     rw (here, rest g, rest (max g (renewed_wear g x.wear)))
 
-pub picked_agree : (edition : ℕ) (p q : ℕ → State → Bool) (ps : List Page)
+picked_agree : (edition : ℕ) (p q : ℕ → State → Bool) (ps : List Page)
     → ((j : ℕ) → j < length ps → p j (get_or (states ps) j bad) ≡ q j (get_or (states ps) j bad)) → renew_picked edition p ps ≡ renew_picked edition q ps
 unfolding renew_picked
 picked_agree edition p q ps h =
@@ -77,107 +81,166 @@ active_clean : (b o : ℕ) (s : State) → is_active b o s ≡ true → unclean 
 unfolding is_active unclean
 active_clean b o s h = rw (and_left (used b s) _ h)
 
--- ---- by what the look told
+-- ---- the unclean pages, by their roles
 
-module _ {fm : Form} {i : List ℕ} {look : Look} (t : Told fm i look) (ok : store_number fm i ≡ 0) where
+abbrev is_unclean : Role → Bool
+is_unclean (Used o) = false
+is_unclean (Cleared wear) = false
+is_unclean Unclean = true
+
+unclean_role : (b : ℕ) (s : State) → is_unclean (role b s) ≡ unclean b s
+unfolding role unclean used is_cleared
+unclean_role b (cleared wear) = refl
+unclean_role b (open₁ o) = by_cases (used b (open₁ o)) (λ u. rw u) (λ u. rw u)
+unclean_role b (open₂ o) = by_cases (used b (open₂ o)) (λ u. rw u) (λ u. rw u)
+unclean_role b receiving = refl
+unclean_role b bad = refl
+
+-- whether the page at an index is
+abbrev pub unclean_at : Look → ℕ → Bool
+unclean_at look k = is_unclean (get_or look.roles.items k (Used 0))
+
+-- ---- by what the store told
+
+module _ {fm : Form} {i : List ℕ} {r : Store} {held : List Setting} (h : Holding fm i r held) where
+  abbrev look : Look
+  look = r.look
+
   abbrev all : List State
   all = states (pages fm i)
 
   sizes : Sizes fm i
-  sizes = right_sizes fm i (size_right fm i ok)
+  sizes = right_sizes fm i (size_right fm i h.accepted)
 
   pub look_few : look.count ≤ 32
-  look_few = omega (arith, t.counts, sizes.most)
+  look_few = omega (arith, h.told.counts, sizes.most)
 
-  pub look_within : look.count * size fm ≤ length i
-  look_within = rw t.counts (omega (arith, sizes.sized))
+  pub look_sized : length i ≡ look.count * size fm
+  look_sized = rw h.told.counts sizes.sized
 
-  pub active_32 : look.active < 32
-  active_32 = omega (arith, t.active, active_within fm i ok, sizes.most)
+  -- there are as many roles as pages
+  pub roles_long : length look.roles.items ≡ look.count
+  roles_long =
+      omega (arith, ap length h.told.roles, length-map all (role (base all)), length_states (pages fm i), pages_long fm i, h.told.counts)
 
-  module _ (picks : List Bool) (e : picks ≡ picked (neither_at look.ranks look.spares) look.count) where
-    -- the pages that are picked are the unclean ones
-    pick_is : (k : ℕ) → k < look.count → get_or picks k false ≡ unclean (base all) (get_or all k bad)
-    pick_is k l =
-        let of : (rs ss : List ℕ) → List Bool = λ rs ss. picked (neither_at rs ss) look.count in
-        let told : picks ≡ of (ranks (base all) all) (spares all) =
-        e ∙ ap (λ (rs : List ℕ). of rs look.spares) t.ranked ∙ ap (λ (ss : List ℕ). of (ranks (base all) all) ss) t.spared in
-        ap (λ (xs : List Bool). get_or xs k false) told ∙ unclean_pick (base all) all look.count k l
+  active_few : look.active < look.count
+  active_few = omega (arith, h.told.active, h.told.counts, active_within fm i h.accepted)
 
-    renewals_are : picked_steps fm look.count picks i ≡ renew_picked fm.edition (λ k s. unclean (base all) s) (pages fm i)
-    unfolding picked_steps pages
-    renewals_are =
-        ap (λ (m : ℕ). renew_picked fm.edition (λ k s. get_or picks k false) (first_pages fm m i)) t.counts
-        ∙ picked_agree fm.edition (λ k s. get_or picks k false) (λ k s. unclean (base all) s) (pages fm i)
-        (λ j g. pick_is j (omega (arith, pages_long fm i, t.counts)))
+  -- the pages that are picked are the unclean ones
+  pick_is : (k : ℕ) → k < look.count → unclean_at look k ≡ unclean (base all) (get_or all k bad)
+  pick_is k l =
+      ap (λ (rs : List Role). is_unclean (get_or rs k (Used 0))) h.told.roles
+      ∙ ap is_unclean (get_or-map (role (base all)) all k bad (Used 0) (omega (arith, length_states (pages fm i), pages_long fm i, h.told.counts)))
+      ∙ unclean_role (base all) (get_or all k bad)
 
-    renewals_long : length (picked_steps fm look.count picks i) ≡ 3 * count (unclean (base all)) all
-    unfolding renew_picked
-    renewals_long =
-        let greatest = greatest_wear (pages fm i) in
-        ap length renewals_are ∙ each_long fm.edition (renewals (λ k s. unclean (base all) s) greatest 0 (pages fm i))
-        ∙ ap (λ (m : ℕ). 3 * m) (renewals_count (unclean (base all)) greatest 0 (pages fm i))
+  renewals_are : picked_steps fm look.count (unclean_at look) i ≡ renew_picked fm.edition (λ k s. unclean (base all) s) (pages fm i)
+  unfolding picked_steps pages
+  renewals_are =
+      ap (λ (m : ℕ). renew_picked fm.edition (λ k s. unclean_at look k) (first_pages fm m i)) h.told.counts
+      ∙ picked_agree fm.edition (λ k s. unclean_at look k) (λ k s. unclean (base all) s) (pages fm i)
+      (λ j g. pick_is j (omega (arith, pages_long fm i, h.told.counts)))
 
-    -- the active page is used, and so not among them
-    active_few : look.active < look.count
-    active_few = omega (arith, t.active, t.counts, active_within fm i ok)
+  renewals_long : length (renew_picked fm.edition (λ k s. unclean (base all) s) (pages fm i)) ≡ 3 * count (unclean (base all)) all
+  unfolding renew_picked
+  renewals_long =
+      let greatest = greatest_wear (pages fm i) in
+      each_long fm.edition (renewals (λ k s. unclean (base all) s) greatest 0 (pages fm i))
+      ∙ ap (λ (m : ℕ). 3 * m) (renewals_count (unclean (base all)) greatest 0 (pages fm i))
 
-    active_out : get_or picks look.active false ≡ false
-    unfolding active_index
-    active_out =
-        let b = base all in
-        let o = active_order all in
-        let there = index_there (is_active b o) all (omega (arith, active_within fm i ok, length_states (pages fm i), pages_long fm i)) in
-        pick_is look.active active_few ∙ ap (λ (k : ℕ). unclean b (get_or all k bad)) t.active ∙ active_clean b o (get_or all (active_index all) bad) there
+  -- the active page is used, and so not among them
+  active_out : unclean_at look look.active ≡ false
+  unfolding active_index
+  active_out =
+      let b = base all in
+      let o = active_order all in
+      let there = index_there (is_active b o) all (omega (arith, active_within fm i h.accepted, length_states (pages fm i), pages_long fm i)) in
+      pick_is look.active active_few ∙ ap (λ (k : ℕ). unclean b (get_or all k bad)) h.told.active ∙ active_clean b o (get_or all (active_index all) bad) there
 
-    -- ---- an open group is abandoned, and then they are renewed
+  -- ---- the mark of an open group
 
-    module _ (g : Bool) (is : g ≡ open_group (pages fm i)) where
-      abbrev mark : List Step
-      mark = cond g (slots_steps look.active look.free (mark_word 0 ∷ [])) []
+  abbrev mark : List Step
+  mark = word_steps look.active (3 + look.free) (mark_word 0)
 
-      mark_is : mark ≡ abandon_steps (pages fm i)
-      unfolding abandon_steps
-      mark_is = rw (is, t.active, t.free)
+  abandons : r.group ≡ true → abandon_steps (pages fm i) ≡ mark
+  unfolding abandon_steps slots_steps
+  abandons g = rw (sym h.grouped ∙ g, h.told.active, h.told.free) (append-nil _)
 
-      pub mark_slot : g ≡ true → look.free < fm.slot_count
-      mark_slot e = open_slot t ok (sym is ∙ e)
+  abandons_none : r.group ≡ false → abandon_steps (pages fm i) ≡ []
+  unfolding abandon_steps
+  abandons_none g = rw (sym h.grouped ∙ g)
 
-      pub mark_ready : Roomy fm → (allowance : ℕ) → AllAllowed (size fm) (take allowance mark) i
-      unfolding recovery_steps
-      mark_ready roomy n =
-          let all_may = recovery_allowed (accepted_healthy fm roomy ⊥ i ok (λ z. absurd z)) in
-          rw mark_is (part_first (size fm) n (abandon_steps (pages fm i)) _ i (allowed_take (size fm) n (recovery_steps fm.edition (pages fm i)) i all_may))
+  pub abandon_few : length (abandon_steps (pages fm i)) ≤ 2
+  abandon_few =
+      by_cases r.group (λ g. rw (abandons g) (omega (arith, word_length look.active (3 + look.free) (mark_word 0)))) (λ g. rw (abandons_none g) (omega arith))
 
-      mark_long : length mark ≡ cond g 2 0
-      mark_long =
-          by_cases g (λ e. rw e (slots_long look.active look.free (mark_word 0 ∷ []))) (λ e. rw e)
+  mark_place : r.group ≡ true → (look.active < 32) × (3 + look.free < word_count fm)
+  mark_place g =
+      let l : look.free < fm.slot_count = open_slot h.told h.accepted (sym h.grouped ∙ g) in
+      (omega (arith, look_few, active_few), omega arith)
 
-      on_mark : OnPage (word_count fm) look.active mark
-      unfolding OnPage
-      on_mark =
-          by_cases g (λ e. let l = mark_slot e in rw e (on_slots (word_count fm) look.active look.free (mark_word 0 ∷ []) (omega arith)))
-          (λ e. rw e tt)
+  -- it stands on the active page, behind its wear word
+  on_mark : OnPage (word_count fm) look.active (abandon_steps (pages fm i))
+  unfolding OnPage
+  on_mark =
+      by_cases r.group
+      (λ g. rw (abandons g) (on_word (word_count fm) look.active (3 + look.free) (mark_word 0) (omega arith) (mark_place g).1))
+      (λ g. rw (abandons_none g) tt)
 
-      pub recovered : (total : ℕ) {allowance left : ℕ} {j k : List ℕ} → total ≡ cond g 2 0 + 3 * count (unclean (base all)) all
-          → Part fm allowance mark i j left → k ≡ run (size fm) (take left (picked_steps fm look.count picks j)) j
-          → recover fm allowance i ≡ record { number = 0; steps = min allowance total; finished = leb total allowance; image = k }
-      unfolding recover recovery_steps picked_steps
-      recovered total {allowance} {left} {j} {k} n marked e =
-          let plan = recovery_steps fm.edition (pages fm i) in
-          let renewing = picked_steps fm look.count picks in
-          let sized : length i ≡ look.count * size fm = rw t.counts sizes.sized in
-          let same : renewing j ≡ renewing i =
-          ap renewing marked.image
-          ∙ renewing_kept fm look.count look.active active_few (λ m. get_or picks m false) active_out (take allowance mark) i
-          (on_take (word_count fm) look.active allowance mark on_mark) sized in
-          let whole : mark ++ renewing j ≡ plan = rw (mark_is, same) (ap (λ (ss : List Step). abandon_steps (pages fm i) ++ ss) renewals_are) in
-          let all_done = part_then marked (record { image = e; left = refl }) in
-          let long : length plan ≡ total =
-          sym (ap length whole) ∙ length-append mark (renewing j) ∙ (let a = mark_long in let b = ap length same in let d = renewals_long in omega arith) in
-          stepped_done fm (store_number fm i) allowance plan i ok ∙ rw (length-take allowance plan, long, ← whole) (rw all_done.image)
+-- ---- in steps under an allowance
 
-pub not_recovered : (fm : Form) (i : List ℕ) (allowance : ℕ) → (store_number fm i ≡ 0 → ⊥)
-    → recover fm allowance i ≡ record { number = store_number fm i; steps = 0; finished = false; image = i }
-unfolding recover
-not_recovered fm i allowance h = stepped_refused fm (store_number fm i) allowance (recovery_steps fm.edition (pages fm i)) i h
+module _ (s : Steps) {r : Store} {held : List Setting} (h : Holding (as_form s.form) s.image.now r held) where
+  abbrev fm : Form
+  fm = as_form s.form
+
+  abbrev i : List ℕ
+  i = s.image.now
+
+  abbrev abandoning : List Step
+  abandoning = abandon_steps (pages fm i)
+
+  abbrev plan : List Step
+  plan = recovery_steps fm.edition (pages fm i)
+
+  pub mark_fits : r.group ≡ true → (r.look.active < 32) × (3 + r.look.free < word_count fm)
+  mark_fits g = mark_place h g
+
+  pub mark_allowed : {w : Word} → r.group ≡ true → w ≡ mark_word 0 → May s (word_steps r.look.active (3 + r.look.free) w)
+  unfolding recovery_steps
+  mark_allowed {w} g made =
+      let whole = may_all s plan (recovery_allowed (accepted_healthy fm s.form.fits.0 ⊥ i h.accepted (λ z. absurd z))) in
+      rw made (subst (May s) (abandons h g) (may_first s abandoning _ whole))
+
+  pub abandoned : {t : Steps} {w : Word} → r.group ≡ true → w ≡ mark_word 0 → Done s (word_steps r.look.active (3 + r.look.free) w) t → Does s abandoning t 2
+  abandoned {t} {w} g made d =
+      record {
+        done = rw (abandons h g) (rw made at d);
+        many = sym (ap length (abandons h g) ∙ word_length r.look.active (3 + r.look.free) (mark_word 0));
+      }
+
+  pub not_abandoned : r.group ≡ false → Does s abandoning s 0
+  not_abandoned g = rw (abandons_none h g) (record { done = done_nothing s; many = refl })
+
+  -- and then the pages are renewed
+  pub recovered : {t u : Steps} {a n : ℕ} → n ≡ r.look.count - length r.look.line.items - r.look.cleared → Does s abandoning t a
+      → Done t (picked_steps (as_form t.form) r.look.count (unclean_at r.look) t.image.now) u
+      → Does s plan u (a + 3 * n)
+  unfolding recovery_steps picked_steps
+  recovered {t} {u} {a} {n} many marked renewed =
+      let picked : Form → List ℕ → List Step = λ f j. picked_steps f r.look.count (unclean_at r.look) j in
+      let kept : picked fm t.image.now ≡ picked fm i =
+      ap (picked fm) marked.done.image
+      ∙ renewing_kept fm r.look.count r.look.active (active_few h) (unclean_at r.look) (active_out h) (take s.left abandoning) i
+      (on_take (word_count fm) r.look.active s.left abandoning (on_mark h)) (look_sized h) in
+      let same : picked (as_form t.form) t.image.now ≡ renew_picked fm.edition (λ k s. unclean (base (all h)) s) (pages fm i) =
+      ap (λ f. picked (as_form f) t.image.now) marked.done.same_form ∙ kept ∙ renewals_are h in
+      record {
+        done = done_then marked.done (subst (λ (ss : List Step). Done t ss u) same renewed);
+        many = omega (
+          arith,
+          many,
+          marked.many,
+          renewals_long h,
+          counted h.told,
+          length-append abandoning (renew_picked fm.edition (λ k s. unclean (base (all h)) s) (pages fm i)),
+        );
+      }

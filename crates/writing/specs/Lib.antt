@@ -1,4 +1,3 @@
 -- Definitions that the contracts of this crate cite.
 pub mod Answers
-pub mod Picks
 pub mod Plans

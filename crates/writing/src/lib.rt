@@ -3,373 +3,230 @@
 
 #![tactic(auto)]
 
-ghost use Rattle.std.specs.Prelude.{◌≡◌, true, false, cond, [], ◌∷◌, ◌+◌, ◌*◌, ◌≤◌, ◌<◌, min, leb, length, take};
-ghost use Rattle.rules.specs.Flash.{AllAllowed};
-ghost use Rattle.rules.specs.Word.{mark_word};
-ghost use Rattle.rules.specs.Steps.{slots_steps, single, words_of, append_steps, open_steps, fill_steps, other, move_steps};
-ghost use Rattle.rules.specs.Owner.{named_owner};
-ghost use Rattle.rules.specs.Call.{first_pages, format, recover, write, triples, group_of};
+ghost use Rattle.std.specs.Prelude.{◌≡◌, List, Ok, ◌+◌, ◌*◌, ◌≤◌, ◌<◌, min, leb, length};
 ghost use Rattle.rules.specs.Page.{size};
-ghost use Rattle.pages.specs.Read.{as_form, Lawful};
+ghost use Rattle.rules.specs.Store.{Setting};
+ghost use Rattle.rules.specs.Steps.{single, words_of, abandon_steps, append_steps, open_steps, fill_steps, move_steps, write_steps};
+ghost use Rattle.rules.specs.Owner.{Owner as Holder};
+ghost use Rattle.rules.specs.Call.{first_pages, pages, format, recover, write, triples, group_of};
+ghost use Rattle.owners.specs.Read.{as_owner};
+ghost use Rattle.pages.specs.Read.{as_form};
+ghost use Rattle.changes.specs.Read.{as_change};
+ghost use Rattle.steps.specs.Done.{May, Done};
 ghost use Rattle.steps.specs.Copied.{copied};
-ghost use Rattle.choosing.specs.Way.{change_of, Lent};
-ghost use Rattle.writing.specs.Answers.{as_stepped};
-ghost use Rattle.writing.specs.Picks.{picked, neither, neither_at};
-ghost use Rattle.writing.specs.Plans.{Part, Does, Tabled, Right};
+ghost use Rattle.store.specs.Opened.{Holding};
+ghost use Rattle.choosing.specs.Way.{Chosen};
+ghost use Rattle.writing.specs.Answers.{as_formatted, as_stepped};
+ghost use Rattle.writing.specs.Plans.{Does, Right, Tabled};
 
+use changes::Change;
 use choosing::Way;
-use pages::{Form, PAGES_MAX};
-use settings::{HELD_MAX, NO_ADDRESS, NO_VALUE};
-use survey::{OK, SIZE};
+use owners::Owner;
+use pages::Form;
+use settings::Table;
+use steps::Steps;
+use store::Store;
+use survey::{Refusal, Role};
 
-#[repr(C)]
-#[derive(Clone, Copy)]
-pub struct Stepped {
-    pub number: u8,
+// What a call that is not refused did: whether it is finished, and how many steps it took.
+#[derive(Clone, Copy, Debug, PartialEq, Eq)]
+pub struct Outcome {
     pub finished: bool,
     pub steps: u16,
 }
 
-// That many steps, cut at the allowance.
-fn done(steps: u16, allowance: u16) -> Stepped
-    ensures { (result.number ≡ 0) × (result.steps ≡ min allowance steps) × (result.finished ≡ leb steps allowance) }
-{
-    if allowance < steps {
-        return Stepped {
-            number: OK,
-            finished: false,
-            steps: allowance,
-        };
-    }
-    Stepped {
-        number: OK,
-        finished: true,
-        steps,
-    }
-}
-
-pub fn refused(number: u8) -> Stepped
-    ensures { (result.number ≡ number) × (result.steps ≡ 0) × (result.finished ≡ false) }
-{
-    Stepped {
-        number,
-        finished: false,
-        steps: 0,
+impl Outcome {
+    // That many steps, cut at the allowance.
+    fn of(steps: u16, allowance: u16) -> Outcome
+        ensures { (result.steps ≡ min allowance steps) × (result.finished ≡ leb steps allowance) }
+    {
+        Outcome {
+            finished: steps <= allowance,
+            steps: allowance.min(steps),
+        }
     }
 }
 
 // The opening word of page 0: order 0, kind 1.
-pub fn format(image: &mut [u8], form: Form) -> u8
-    requires { Lawful form }
-    ensures value { result ≡ (format (as_form form) image.old).number }
-    ensures image_after { image.new ≡ (format (as_form form) image.old).image }
+pub fn format(image: &mut [u8], form: Form) -> Result<(), Refusal>
+    ensures { as_formatted result image.new ≡ format (as_form form) image.old }
 {
-    let n = survey::page_count(image, form);
-    if n == 0 {
-        return SIZE;
-    }
-    steps::renew_all(image, form, n);
-    steps::program_word(image, form, 0, 1, words::opening_word(1, 0), 2);
-    OK
+    let n = survey::page_count(image, form)?;
+    let left = 3 * n as u16 + 2;
+    let mut steps = Steps { image, form, left };
+    steps.renew_all(n);
+    steps.program_word(0, 1, words::opening_word(1, 0));
+    Ok(())
 }
 
-// An unclean page: neither used nor cleared.
-fn is_neither(rank: u32, spare: u32) -> bool
-    ensures { result ≡ neither rank spare }
+// C20. Abandoning: a mark in the free slot ends the open group, if there is one. This function and those below tell how many steps
+// there are in all, be they allowed or not.
+#[tactic(auto, using(crate::proofs::Recovering::mark_fits, crate::proofs::Recovering::mark_allowed))]
+fn abandon(steps: &mut Steps, store: &Store) -> u16
+    requires { (held : List Setting) × Holding (as_form steps.old.form) steps.old.image.now store.now held }
+    ensures { Does steps.old (abandon_steps (pages (as_form steps.old.form) steps.old.image.now)) steps.new result }
 {
-    if rank != 0 {
-        return false;
+    let is_open = store.group;
+    if !is_open {
+        return 0;
     }
-    spare == 0
-}
-
-// Which of n pages are neither used nor cleared.
-fn unclean<'a>(
-    ranks: &'a [u32; PAGES_MAX],
-    spares: &'a [u32; PAGES_MAX],
-    n: usize,
-) -> [bool; PAGES_MAX]
-    requires { n ≤ 32 }
-    ensures { result ≡ picked (neither_at ranks.now spares.now) n }
-{
-    let mut picks = [false; PAGES_MAX];
-    let mut i = 0;
-    while i < n {
-        picks[i] = is_neither(ranks[i], spares[i]);
-        i += 1;
-    }
-    picks
-}
-
-// All of n pages but one.
-fn others(n: usize, kept: usize) -> [bool; PAGES_MAX]
-    requires { n ≤ 32 }
-    ensures { result ≡ picked (other kept) n }
-{
-    let mut picks = [false; PAGES_MAX];
-    let mut i = 0;
-    while i < n {
-        picks[i] = i != kept;
-        i += 1;
-    }
-    picks
-}
-
-// C20. Abandoning: a mark in the free slot ends the open group, if there is one.
-fn abandon(image: &mut [u8], form: Form, group: bool, page: usize, slot: usize, left: u16) -> u16
-    requires lawful { Lawful form × (page < 32) × (group ≡ true → slot < form.slots) }
-    requires all_allowed { AllAllowed (size (as_form form)) (take left (cond group (slots_steps page slot (mark_word 0 ∷ [])) [])) image.old }
-    ensures { Part (as_form form) left (cond group (slots_steps page slot (mark_word 0 ∷ [])) []) image.old image.new result }
-{
-    if group {
-        return steps::program_word(image, form, page, 3 + slot, words::mark_word(0), left);
-    }
-    left
-}
-
-// How many steps recovery has: the mark, if a group is open, and those of the pages renewed.
-fn recovery_steps(group: bool, renewed: usize) -> u16
-    requires { renewed ≤ 32 }
-    ensures { result ≡ cond group 2 0 + 3 * renewed }
-{
-    if group {
-        return 2 + 3 * renewed as u16;
-    }
-    3 * renewed as u16
+    steps.program_word(store.look.active, 3 + store.look.free, words::mark_word(0));
+    2
 }
 
 // An open group is abandoned; then the pages that are neither used nor cleared are renewed, in index order.
-pub fn recover(image: &mut [u8], form: Form, allowance: u16) -> Stepped
-    requires { Lawful form }
+pub fn recover(image: &mut [u8], form: Form, allowance: u16) -> Result<Outcome, Refusal>
     ensures { as_stepped result image.new ≡ recover (as_form form) allowance image.old }
 {
-    let mut addresses = [NO_ADDRESS; HELD_MAX];
-    let mut values = [NO_VALUE; HELD_MAX];
-    let store = store::open(image, form, &mut addresses, &mut values);
-    let number = store.number;
-    let is_refused = number != OK;
-    if is_refused {
-        return refused(number);
-    }
-    let n = store.look.count;
-    let renewed = n - store.look.used - store.look.cleared;
-    let picks = unclean(&store.look.ranks, &store.look.spares, n);
-    let group = store.group;
-    let rest = abandon(
+    let mut table = Table::new();
+    let store = store::open(image, form, &mut table)?;
+    let look = &store.look;
+    let renewed = look.count - look.line.len() - look.cleared;
+    let mut steps = Steps {
         image,
         form,
-        group,
-        store.look.active,
-        store.look.free,
-        allowance,
-    );
-    steps::renew_picked(image, form, n, picks, rest);
-    done(recovery_steps(group, renewed), allowance)
+        left: allowance,
+    };
+    let abandoned = abandon(&mut steps, &store);
+    steps.renew_picked(look.count, |page| look.roles[page] == Role::Unclean);
+    Ok(Outcome::of(abandoned + 3 * renewed as u16, allowance))
 }
 
 // The change goes into the slots of a page, from one on: its record or, with marks, its group.
-fn program_change(
-    image: &mut [u8],
-    form: Form,
-    page: usize,
-    slot: usize,
-    entries: &[u8],
-    marks: bool,
-    left: u16,
-) -> u16
-    requires lawful { Lawful form × (page < 32) × Right form.edition marks entries.now
-        × (slot + length (words_of (change_of marks entries.now)) ≤ form.slots) }
-    requires all_allowed { AllAllowed (size (as_form form)) (take left (append_steps page slot (change_of marks entries.now))) image.old }
-    ensures { Part (as_form form) left (append_steps page slot (change_of marks entries.now)) image.old image.new result }
+fn append(steps: &mut Steps, page: usize, slot: usize, change: &Change) -> u16
+    requires right { Right steps.old.form.edition change.now }
+    requires place { (page < 32) × (slot + length (words_of (as_change change.now)) ≤ steps.old.form.slots) }
+    requires allowed { May steps.old (append_steps page slot (as_change change.now)) }
+    ensures { Does steps.old (append_steps page slot (as_change change.now)) steps.new result }
 {
-    if marks {
-        return steps::program_group(image, form, page, slot, entries, left);
+    if change.marks {
+        steps.program_group(page, slot, change.entries);
+    } else {
+        steps.program_records(page, slot, change.entries);
     }
-    steps::program_records(image, form, page, slot, entries, left)
-}
-
-// How many steps it takes to program a change.
-fn change_steps(entries: &[u8], marks: bool) -> u16
-    requires { length entries.now ≤ 26 }
-    ensures value { result ≡ 2 * cond marks (length (triples entries.now) + 2) (length (triples entries.now)) }
-    ensures upper_bound { result ≤ 20 }
-{
-    2 * choosing::slots_of(entries, marks) as u16
-}
-
-// The change goes behind the last slot that is taken.
-fn append(
-    image: &mut [u8],
-    form: Form,
-    page: usize,
-    slot: usize,
-    entries: &[u8],
-    marks: bool,
-    allowance: u16,
-) -> Stepped
-    requires lawful { Lawful form × (page < 32) × Right form.edition marks entries.now
-        × (slot + length (words_of (change_of marks entries.now)) ≤ form.slots) }
-    requires all_allowed { AllAllowed (size (as_form form)) (take allowance (append_steps page slot (change_of marks entries.now))) image.old }
-    ensures { Does (as_form form) allowance (append_steps page slot (change_of marks entries.now))
-        image.old result image.new }
-{
-    program_change(image, form, page, slot, entries, marks, allowance);
-    done(change_steps(entries, marks), allowance)
+    2 * change.slots() as u16
 }
 
 // A cleared page is opened, and the change goes into its slots, from 0 on.
-fn open_page(
-    image: &mut [u8],
-    form: Form,
-    page: usize,
-    order: u32,
-    entries: &[u8],
-    marks: bool,
-    allowance: u16,
-) -> Stepped
-    requires lawful { Lawful form × (page < 32) × (order < 4194304) × Right form.edition marks entries.now }
-    requires all_allowed { AllAllowed (size (as_form form)) (take allowance (open_steps page order (change_of marks entries.now))) image.old }
-    ensures { Does (as_form form) allowance (open_steps page order (change_of marks entries.now))
-        image.old result image.new }
+fn open_page(steps: &mut Steps, page: usize, order: u32, change: &Change) -> u16
+    requires right { Right steps.old.form.edition change.now }
+    requires place { (page < 32) × (order < 4194304) }
+    requires allowed { May steps.old (open_steps page order (as_change change.now)) }
+    ensures { Does steps.old (open_steps page order (as_change change.now)) steps.new result }
 {
-    let opening = words::opening_word(1, order);
-    let left = steps::program_word(image, form, page, 1, opening, allowance);
-    program_change(image, form, page, 0, entries, marks, left);
-    done(2 + change_steps(entries, marks), allowance)
+    steps.program_word(page, 1, words::opening_word(1, order));
+    2 + append(steps, page, 0, change)
 }
 
 // A cleared page is opened to receive, what is held is copied to it with the new records, and its done word is programmed.
-fn fill<'a>(
-    image: &mut [u8],
-    form: Form,
-    page: usize,
-    order: u32,
-    addresses: &'a [u16; HELD_MAX],
-    values: &'a [u8; HELD_MAX],
-    held: usize,
-    entries: &[u8],
-    left: u16,
-) -> u16
-    requires lawful { Lawful form × (page < 32) × (order < 4194304) × (held ≤ 192)
-        × (length (copied addresses.now values.now held (triples entries.now)) ≤ form.slots) }
-    requires all_allowed { AllAllowed (size (as_form form)) (take left (fill_steps page order (copied addresses.now values.now held (triples entries.now))))
-        image.old }
-    ensures { Part (as_form form) left
-        (fill_steps page order (copied addresses.now values.now held (triples entries.now)))
-        image.old image.new result }
+fn fill(steps: &mut Steps, page: usize, order: u32, table: Table, entries: &[u8])
+    requires place { (page < 32) × (order < 4194304) × (length (copied table (triples entries.now)) ≤ steps.old.form.slots) }
+    requires allowed { May steps.old (fill_steps page order (copied table (triples entries.now))) }
+    ensures { Done steps.old (fill_steps page order (copied table (triples entries.now))) steps.new }
 {
-    let opening = words::opening_word(2, order);
-    let opened = steps::program_word(image, form, page, 1, opening, left);
-    let rest = steps::copy(
-        image, form, page, *addresses, *values, held, entries, opened,
-    );
-    steps::program_word(image, form, page, 2, words::done_word(order), rest)
+    steps.program_word(page, 1, words::opening_word(2, order));
+    steps.copy(page, table, entries);
+    steps.program_word(page, 2, words::done_word(order));
 }
 
 // How many records a move has: all that is held then.
-fn copy_count<'a>(
-    addresses: &'a [u16; HELD_MAX],
-    values: &'a [u8; HELD_MAX],
-    held: usize,
-    entries: &[u8],
-) -> u16
-    requires held_bound { (held ≤ 192) × (length entries.now ≤ 26) }
-    requires tabled { Tabled addresses.now values.now held (triples entries.now) }
-    ensures value { result ≡ length (copied addresses.now values.now held (triples entries.now)) }
-    ensures upper_bound { result ≤ 192 }
+fn copy_count(table: &Table, entries: &[u8]) -> u16
+    requires short { length entries.now ≤ 26 }
+    requires tabled { Tabled table.now (triples entries.now) }
+    ensures { (result ≡ length (copied table.now (triples entries.now))) × (result ≤ 192) }
 {
-    (held + choosing::told_of(addresses, values, entries).new) as u16
+    (table.len() + choosing::told_of(table, entries).new) as u16
 }
 
-// The last cleared page receives all that is held, and the other pages are renewed.
-fn move_to<'a>(
-    image: &mut [u8],
-    form: Form,
+// The last cleared page of n receives all that is held, and the other pages are renewed.
+fn move_to(
+    steps: &mut Steps,
     page: usize,
     order: u32,
     n: usize,
-    addresses: &'a [u16; HELD_MAX],
-    values: &'a [u8; HELD_MAX],
-    held: usize,
+    table: Table,
     entries: &[u8],
-    allowance: u16,
-) -> Stepped
-    requires lawful { Lawful form × (page < n) × (n ≤ 32) × (length image.old ≡ n * size (as_form form)) × (order < 4194304) × (held ≤ 192)
-        × (length entries.now ≤ 26) }
-    requires tabled { Tabled addresses.now values.now held (triples entries.now) }
-    requires all_allowed { AllAllowed (size (as_form form))
-        (take allowance (fill_steps page order (copied addresses.now values.now held (triples entries.now)))) image.old }
-    ensures { Does (as_form form) allowance
-        (move_steps form.edition page order (copied addresses.now values.now held (triples entries.now))
-        (first_pages (as_form form) n image.old))
-        image.old result image.new }
+) -> u16
+    requires place { (page < n) × (n ≤ 32) × (length steps.old.image.now ≡ n * size (as_form steps.old.form)) × (order < 4194304) }
+    requires short { length entries.now ≤ 26 }
+    requires tabled { Tabled table (triples entries.now) }
+    requires allowed { May steps.old (fill_steps page order (copied table (triples entries.now))) }
+    ensures { Does steps.old (move_steps steps.old.form.edition page order (copied table (triples entries.now))
+        (first_pages (as_form steps.old.form) n steps.old.image.now)) steps.new result }
 {
-    let copies = copy_count(addresses, values, held, entries);
-    let left = fill(
-        image, form, page, order, addresses, values, held, entries, allowance,
-    );
-    let picks = others(n, page);
-    steps::renew_picked(image, form, n, picks, left);
-    done(2 * copies + 3 * n as u16 + 1, allowance)
+    let copies = copy_count(&table, entries);
+    fill(steps, page, order, table, entries);
+    steps.renew_picked(n, |other| other != page);
+    2 * copies + 3 * n as u16 + 1
+}
+
+// The steps of a write, the way of which was chosen by one look at the image.
+fn follow(steps: &mut Steps, way: Way, store: &Store, table: Table, change: &Change) -> u16
+    requires opened { Holding (as_form steps.old.form) steps.old.image.now store.now table }
+    requires chosen { (o : Holder) × Chosen (as_form steps.old.form) o (as_change change.now) steps.old.image.now (Ok way) }
+    ensures { Does steps.old (write_steps steps.old.form.edition (as_change change.now) (pages (as_form steps.old.form) steps.old.image.now))
+        steps.new result }
+{
+    match way {
+        Way::Stay => 0,
+        Way::Append { page, slot } => append(steps, page, slot, change),
+        Way::Open { page, order } => open_page(steps, page, order, change),
+        Way::Move { page, order } => {
+            move_to(steps, page, order, store.look.count, table, change.entries)
+        }
+    }
 }
 
 // The steps of a change that the image at the call fixes, by one look at it.
-fn change(
+fn write_change(
     image: &mut [u8],
     form: Form,
-    timer: bool,
-    entries: &[u8],
-    marks: bool,
+    owner: Owner,
+    change: &Change,
     allowance: u16,
-) -> Stepped
-    requires { Lawful form × Lent marks entries.now }
-    ensures { as_stepped result image.new
-        ≡ write (as_form form) (named_owner timer) (change_of marks entries.now) allowance image.old }
+) -> Result<Outcome, Refusal>
+    ensures { as_stepped result image.new ≡ write (as_form form) (as_owner owner) (as_change change.now) allowance image.old }
 {
-    let mut addresses = [NO_ADDRESS; HELD_MAX];
-    let mut values = [NO_VALUE; HELD_MAX];
-    let store = store::open(image, form, &mut addresses, &mut values);
-    match choosing::choose(store, form, timer, &addresses, &values, entries, marks) {
-        Way::Refuse(number) => refused(number),
-        Way::Stay => done(0, allowance),
-        Way::Append(page, slot) => append(image, form, page, slot, entries, marks, allowance),
-        Way::Open(page, order) => open_page(image, form, page, order, entries, marks, allowance),
-        Way::Move(page, order) => {
-            let n = store.look.count;
-            let held = store.held;
-            move_to(
-                image, form, page, order, n, &addresses, &values, held, entries, allowance,
-            )
-        }
-    }
+    let mut table = Table::new();
+    let store = store::open(image, form, &mut table)?;
+    let way = choosing::choose(&store, form, owner, &table, change)?;
+    let left = allowance;
+    let mut steps = Steps { image, form, left };
+    let total = follow(&mut steps, way, &store, table, change);
+    Ok(Outcome::of(total, allowance))
 }
 
 // A single setting is lent as a group is, without marks.
 pub fn write(
     image: &mut [u8],
     form: Form,
-    timer: bool,
+    owner: Owner,
     address: u16,
     value: u8,
     allowance: u16,
-) -> Stepped
-    requires { Lawful form }
-    ensures { as_stepped result image.new ≡ write (as_form form) (named_owner timer) (single address value) allowance image.old }
+) -> Result<Outcome, Refusal>
+    ensures { as_stepped result image.new ≡ write (as_form form) (as_owner owner) (single address value) allowance image.old }
 {
-    let entry = [(address % 256) as u8, (address / 256) as u8, value];
-    change(image, form, timer, &entry, false, allowance)
+    let [low, high] = address.to_le_bytes();
+    let change = Change {
+        entries: &[low, high, value],
+        marks: false,
+    };
+    write_change(image, form, owner, &change, allowance)
 }
 
 pub fn write_group(
     image: &mut [u8],
     form: Form,
-    timer: bool,
+    owner: Owner,
     entries: &[u8],
     allowance: u16,
-) -> Stepped
-    requires { Lawful form }
-    ensures { as_stepped result image.new
-        ≡ write (as_form form) (named_owner timer) (group_of entries.now) allowance image.old }
+) -> Result<Outcome, Refusal>
+    ensures { as_stepped result image.new ≡ write (as_form form) (as_owner owner) (group_of entries.now) allowance image.old }
 {
-    change(image, form, timer, entries, true, allowance)
+    let change = Change {
+        entries,
+        marks: true,
+    };
+    write_change(image, form, owner, &change, allowance)
 }

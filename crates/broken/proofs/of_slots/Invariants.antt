@@ -1,6 +1,6 @@
 -- The invariant: the slots passed are counted, and the next one stands at the place.
-use Prim.Native.Nat.{◌+◌, ◌-◌, ◌*◌, ◌≤◌}
-use lib.ListN.{length, take}
+use Prim.Native.Nat.{◌+◌, ◌≤◌}
+use lib.ListN.{take}
 use Rattle.rules.specs.Word.{words}
 use Rattle.groups.specs.Stands.{Stands}
 use Rattle.groups.proofs.Standing.{place_at}
@@ -10,8 +10,5 @@ use Rattle.broken.proofs.of_slots.Given as goal
 
 abbrev pub invariant-loop-k : goal.invariant-loop-k
 invariant-loop-k l =
-    (4 * l.k ≤ length l.slots) × (l.broken.half + l.broken.spoiled ≤ l.k) × Counts (first_slots l.edition l.slots l.k) l.broken
+    (l.broken.half + l.broken.spoiled ≤ l.k) × Counts (first_slots l.edition l.slots l.k) l.broken
     × Stands (place_at l.edition l.slots l.k) (take l.k (words l.slots)) l.place
-
-abbrev pub decreases-loop-k : goal.decreases-loop-k
-decreases-loop-k l = l.count - l.k

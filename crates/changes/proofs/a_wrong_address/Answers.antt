@@ -1,34 +1,21 @@
-use mathlib.Core.Path.{refl, sym, ◌∙◌}
+use Prim.Native.Nat.{◌/◌}
+use mathlib.Core.Path.{refl, sym, ap, ◌∙◌}
 use native.Mathlib.Omega.{arith}
-use Rattle.changes.proofs.Entries.{wrong_here, wrong_later, wrong_nowhere}
+use lib.ListN.{length}
+use lib.Dec.{leb}
+use borrow.Author.Tests.{tests}
+use Rattle.std.proofs.Common.{rules}
+use Rattle.std.proofs.lemmas.Iterator.{YieldsList-from_range}
+use Rattle.std.proofs.lemmas.Iterator.Search.{any_from_yields_List}
+use Rattle.rules.specs.Call.{a_wrong_address}
+use Rattle.changes.specs.Entries.{byte_address}
+use Rattle.changes.proofs.Entries.{entries_from, any_wrong}
 use Rattle.changes.proofs.a_wrong_address.Goals as goal
-
-pub loop-i-init : goal.loop-i-init
-loop-i-init c = (omega arith, refl)
-
-pub address_at-requires : goal.address_at-requires
-address_at-requires c = omega arith
-
-pub returns-then-address_at-ge-NO_ADDRESS : goal.returns-then-address_at-ge-NO_ADDRESS
-returns-then-address_at-ge-NO_ADDRESS c =
-    let l = c.loop-i in
-    let a = c.args in
-    sym (l.invariant.1 ∙ wrong_here a.entries.now l.i (omega arith) (omega (arith, c.address_at.ensures)))
-
-pub overflow_add-i : goal.overflow_add-i
-overflow_add-i c = omega arith
-
-pub loop-i-smaller : goal.loop-i-smaller
-loop-i-smaller c = omega arith
-
-pub loop-i-preserved : goal.loop-i-preserved
-loop-i-preserved c =
-    let l = c.loop-i in
-    let a = c.args in
-    (omega arith, l.invariant.1 ∙ wrong_later a.entries.now l.i (omega arith) (omega (arith, c.address_at.ensures)))
 
 pub returns : goal.returns
 returns c =
-    let l = c.loop-i in
-    let a = c.args in
-    sym (l.invariant.1 ∙ wrong_nowhere a.entries.now l.i (omega arith))
+    let s = c.args.entries.now in
+    let n = length s / 3 in
+    any_from_yields_List (λ k. leb 65535 (byte_address s k)) _ _ _ c.any.ensures.ran (YieldsList-from_range 0 n n refl (omega arith))
+    (λ x b q k. search (rules, tests))
+    ∙ any_wrong s _ ∙ ap a_wrong_address (sym (entries_from s 0 n (omega arith)))

@@ -1,47 +1,20 @@
-use Prim.Native.Nat.{◌+◌}
-use mathlib.Core.Path.{refl, sym, ap, ◌∙◌}
+use Prim.Native.Nat.{◌/◌, ◌+◌}
+use mathlib.Core.Path.{refl, ◌∙◌}
 use native.Mathlib.Omega.{arith}
+use lib.ListN.{length}
+use borrow.Author.Tests.{tests}
+use Rattle.std.proofs.Common.{rules}
+use Rattle.std.proofs.lemmas.Iterator.{YieldsList-from_range}
+use Rattle.std.proofs.lemmas.Iterator.Search.{any_from_yields_List}
 use Rattle.rules.specs.Call.{among}
-use Rattle.changes.proofs.Entries.{addresses_from, again_here, again_later, again_nowhere}
+use Rattle.changes.specs.Entries.{byte_address}
+use Rattle.changes.proofs.Entries.{addresses_from, any_again}
 use Rattle.changes.proofs.repeats.Goals as goal
-
-pub loop-i-init : goal.loop-i-init
-loop-i-init c = (omega arith, refl)
-
-pub overflow_add-i : goal.overflow_add-i
-overflow_add-i c = omega arith
-
-pub address_at-requires : goal.address_at-requires
-address_at-requires c = omega arith
-
-pub names_from-requires : goal.names_from-requires
-names_from-requires c = omega arith
-
-pub returns-then-names_from : goal.returns-then-names_from
-returns-then-names_from c =
-    let at = c.before in
-    let l = at.loop-i in
-    let a = at.args in
-    let named = ap (λ x. among x (addresses_from a.entries.now (l.i + 1))) (sym at.address_at.ensures)
-    ∙ sym c.names_from.ensures ∙ c.if-names_from.true in
-    sym (l.invariant.1 ∙ again_here a.entries.now l.i (omega arith) named)
-
-pub overflow_add-i-in-loop-i : goal.overflow_add-i-in-loop-i
-overflow_add-i-in-loop-i c = omega arith
-
-pub loop-i-smaller : goal.loop-i-smaller
-loop-i-smaller c = omega arith
-
-pub loop-i-preserved : goal.loop-i-preserved
-loop-i-preserved c =
-    let at = c.before in
-    let l = at.loop-i in
-    let a = at.args in
-    let named = ap (λ x. among x (addresses_from a.entries.now (l.i + 1))) (sym at.address_at.ensures) ∙ sym c.names_from.ensures ∙ c.if-names_from.false in
-    (omega arith, l.invariant.1 ∙ again_later a.entries.now l.i (omega arith) named)
 
 pub returns : goal.returns
 returns c =
-    let l = c.loop-i in
-    let a = c.args in
-    sym (l.invariant.1 ∙ again_nowhere a.entries.now l.i (omega arith))
+    let s = c.args.entries.now in
+    let n = length s / 3 in
+    any_from_yields_List (λ k. among (byte_address s k) (addresses_from s (k + 1))) _ _ _ c.any.ensures.ran (YieldsList-from_range 0 n n refl (omega arith))
+    (λ x b q k. search (rules, tests))
+    ∙ any_again s 0 n (omega arith)

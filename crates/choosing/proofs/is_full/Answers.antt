@@ -1,25 +1,23 @@
+use mathlib.Core.Path.{ap, ◌∙◌}
 use native.Mathlib.Omega.{arith}
-use Rattle.rules.specs.Owner.{named_owner}
-use Rattle.choosing.proofs.Rooms.{none_new, too_many, by_owner}
+use lib.ListN.{length}
+use borrow.Author.Tests.{eq-eqb}
+use Rattle.rules.specs.Store.{count}
+use Rattle.rules.specs.Owner.{is_own}
+use Rattle.owners.specs.Read.{as_owner}
+use Rattle.choosing.proofs.Rooms.{too_many, none_new, by_owner}
 use Rattle.choosing.proofs.is_full.Goals as goal
 
-pub returns-then-is_nothing_new : goal.returns-then-is_nothing_new
-returns-then-is_nothing_new c = λ ps rs h is. none_new ps h (named_owner c.args.timer) rs is c.if-is_nothing_new.true
-
-pub overflow_add-is_over : goal.overflow_add-is_over
-overflow_add-is_over c = let p = c.requires in omega (arith, p.has.1.few, p.has.1.many, p.bound)
-
 pub returns-then-is_over : goal.returns-then-is_over
-returns-then-is_over c = λ ps rs h is. too_many ps h (named_owner c.args.timer) rs is (omega arith)
+returns-then-is_over c = λ ps rs e is. too_many ps (as_owner c.args.owner) rs is (omega (arith, ap length e))
 
-pub held_by-requires : goal.held_by-requires
-held_by-requires c = c.requires.has
+pub returns-then-is_some_new : goal.returns-then-is_some_new
+returns-then-is_some_new c =
+    λ ps rs e is.
+    let o = as_owner c.args.owner in
+    by_owner ps o rs is (omega (arith, ap length e)) c.if-is_some_new.true c.most-most.ensures (c.held_by.ensures.value ∙ ap (count (is_own o)) e)
 
-pub overflow_add-result : goal.overflow_add-result
-overflow_add-result c = omega (arith, c.held_by.ensures.upper_bound, c.requires.bound)
-
-pub returns : goal.returns
-returns c =
-    let timer = c.args.timer in
-    λ ps rs h is.
-    by_owner ps h (named_owner timer) rs is c.if-is_nothing_new.false (omega arith) (c.most-most.ensures timer) (c.held_by.ensures.value ps h)
+pub returns-else-is_some_new : goal.returns-else-is_some_new
+returns-else-is_some_new c =
+    let z = c.if-is_some_new.false in
+    λ ps rs e is. rw (eq-eqb c.args.new 0 z) (none_new ps (as_owner c.args.owner) rs is (omega (arith, ap length e)) z)

@@ -1,27 +1,5 @@
--- The image is read by the form that it has at the page size.
-use Rattle.rules.specs.Owner.{named_owner}
-use Rattle.rules.specs.Call.{SIZE, refused_reading, blank_read}
-use Rattle.rules.proofs.Named.{blank_read_wrong}
-use Rattle.survey.proofs.Sizes.{sized_lawful, sized_right, sized_wrong}
+use mathlib.Core.Path.{◌∙◌}
 use Rattle.istrovell.proofs.istrovell_blank_read.Goals as goal
 
-pub returns-in-Right : goal.returns-in-Right
-returns-in-Right c =
-    let a = c.args in
-    let i = a.image.now in
-    let o = named_owner a.timer in
-    sized_right a.page_size i c.form_at.ensures (refused_reading SIZE) (λ f. blank_read f o a.address i) c.in-Right.is
-    c.blank_read.ensures
-
-pub returns-in-Wrong : goal.returns-in-Wrong
-returns-in-Wrong c =
-    let a = c.args in
-    let i = a.image.now in
-    let o = named_owner a.timer in
-    sized_wrong a.page_size i c.form_at.ensures (refused_reading SIZE) (λ f. blank_read f o a.address i) c.in-Wrong.is
-    (λ f w. blank_read_wrong f i w o a.address) c.refused.ensures
-
-pub blank_read-requires : goal.blank_read-requires
-blank_read-requires c =
-    let a = c.args in
-    sized_lawful a.page_size a.image.now c.form_at.ensures c.in-Right.is
+pub returns : goal.returns
+returns c = c.into.ensures ∙ c.blank_read.ensures

@@ -1,29 +1,5 @@
--- The image is read by the form that it has at the page size.
-use Rattle.rules.specs.Owner.{named_owner}
-use Rattle.rules.specs.Call.{SIZE, refused_steps, write, group_of}
-use Rattle.rules.proofs.Named.{write_wrong}
-use Rattle.survey.proofs.Sizes.{sized_lawful, sized_right, sized_wrong}
+use mathlib.Core.Path.{◌∙◌}
 use Rattle.istrovell.proofs.istrovell_write_group.Goals as goal
 
-pub returns-in-Right : goal.returns-in-Right
-returns-in-Right c =
-    let a = c.args in
-    let i = a.image.now in
-    let o = named_owner a.timer in
-    let ch = group_of a.group.now in
-    sized_right a.page_size i c.form_at.ensures (refused_steps SIZE i) (λ f. write f o ch a.allowance i) c.in-Right.is
-    c.write_group.ensures
-
-pub returns-in-Wrong : goal.returns-in-Wrong
-returns-in-Wrong c =
-    let a = c.args in
-    let i = a.image.now in
-    let o = named_owner a.timer in
-    let ch = group_of a.group.now in
-    sized_wrong a.page_size i c.form_at.ensures (refused_steps SIZE i) (λ f. write f o ch a.allowance i) c.in-Wrong.is
-    (λ f w. write_wrong f i w o ch a.allowance) (let r = c.refused.ensures in rw (r.0, r.1, r.2))
-
-pub write_group-requires : goal.write_group-requires
-write_group-requires c =
-    let a = c.args in
-    sized_lawful a.page_size a.image.now c.form_at.ensures c.in-Right.is
+pub returns : goal.returns
+returns c = c.into.ensures c.write_group.new.image ∙ c.write_group.ensures

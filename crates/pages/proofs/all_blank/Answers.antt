@@ -1,38 +1,15 @@
-use mathlib.Core.Path.{◌≡◌, refl, sym, ap, ◌∙◌}
-use native.Mathlib.Omega.{arith}
+use borrow.Author.Tests.{tests}
+use mathlib.Core.Path.{ap, ◌∙◌}
+use Rattle.std.proofs.Common.{rules}
+use Rattle.std.proofs.lemmas.Iterator.{YieldsList-from_slice}
+use Rattle.std.proofs.lemmas.Iterator.Search.{all_from_yields_List}
 use Rattle.rules.specs.Word.{blank}
-use Rattle.pages.proofs.Scan.{blank_on, blank_off, blank_end}
+use Rattle.rules.specs.Page.{all_blank}
+use Rattle.words.specs.Read.{word_in}
+use Rattle.pages.proofs.Scan.{all_blank_is}
 use Rattle.pages.proofs.all_blank.Goals as goal
 
-pub loop-at-init : goal.loop-at-init
-loop-at-init c = (omega arith, refl)
-
-pub overflow_add-at : goal.overflow_add-at
-overflow_add-at c = omega arith
-
-pub word_at-requires : goal.word_at-requires
-word_at-requires c = omega arith
-
-pub is_blank-requires : goal.is_blank-requires
-is_blank-requires c = tt
-
-pub returns-then-not-is_blank : goal.returns-then-not-is_blank
-returns-then-not-is_blank c =
-    let here = c.loop-at in
-    let b : blank _ ≡ _ = ap blank (sym c.word_at.ensures) ∙ sym c.is_blank.ensures ∙ c.if-not-is_blank.true in
-    sym (here.invariant.1 ∙ blank_off here.at _ (omega arith) b)
-
-pub overflow_add-at-in-loop-at : goal.overflow_add-at-in-loop-at
-overflow_add-at-in-loop-at c = omega arith
-
-pub loop-at-smaller : goal.loop-at-smaller
-loop-at-smaller c = omega arith
-
-pub loop-at-preserved : goal.loop-at-preserved
-loop-at-preserved c =
-    let here = c.loop-at in
-    let b : blank _ ≡ _ = ap blank (sym c.word_at.ensures) ∙ sym c.is_blank.ensures ∙ c.if-not-is_blank.false in
-    (omega arith, here.invariant.1 ∙ blank_on here.at _ (omega arith) b)
-
 pub returns : goal.returns
-returns c = let here = c.loop-at in sym (here.invariant.1 ∙ blank_end here.at _ (omega arith))
+returns c =
+    all_from_yields_List (λ b. blank (word_in b 0)) _ _ _ c.all.ensures.ran (YieldsList-from_slice c.fours.result.now cc) (λ x b q k. search (rules, tests))
+    ∙ all_blank_is _ ∙ ap all_blank c.fours.ensures.value

@@ -1,78 +1,76 @@
-use Prim.Native.Nat.{ℕ}
-use mathlib.Core.Path.{◌≡◌, ◌∙◌, subst}
+use Prim.Native.Nat.{ℕ, ◌+◌, ◌<◌}
+use mathlib.Core.Path.{◌≡◌, ap, ◌∙◌, subst}
 use mathlib.Core.Logic.{inl, inr}
-use mathlib.Core.List.{[]}
+use mathlib.Core.List.{List, []}
 use native.Mathlib.Omega.{arith}
-use lib.ListN.{get_or, take}
-use Rattle.rules.specs.Store.{each, put_all, in_group}
+use lib.ListN.{length, get_or, take}
+use Rattle.std.proofs.lemmas.Result.{err_from_is_err_and}
+use Rattle.rules.specs.Page.{Form}
+use Rattle.rules.specs.Store.{Setting, each, records, put_all, in_group}
 use Rattle.pages.specs.Read.{as_form}
-use Rattle.settings.specs.Held.{Holds}
 use Rattle.survey.specs.States.{slots_in}
+use Rattle.settings.proofs.Slots.{many_more}
 use Rattle.store.specs.Gather.{gathered, standing, Ends}
-use Rattle.store.proofs.Gathering.{Passed, slots_few, all_passed, all_ends, gather_more}
+use Rattle.store.proofs.Gathering.{Passed, all_passed, all_ends, gather_more, gathered_rest}
 use Rattle.store.proofs.gather.Goals as goal
-use Rattle.store.proofs.gather.Goals.{Joined-k-used, then-k-used, else-k-used}
-
--- so many slots are passed
-passed : (c : Joined-k-used) →
-    let a = c.args in Passed (as_form a.form) a.used a.free c.loop-k.k c.if-k-used.n
-passed c = elim c.if-k-used.branch [ then-k-used w ↦ inl (w.if-k-used.true, w.n-is) | else-k-used w ↦ inr w.n-is ]
+use Rattle.store.proofs.gather.Goals.{After-put_page, then-is_active, else-is_active}
 
 pub loop-k-init : goal.loop-k-init
 unfolding gathered each put_all Ends
-loop-k-init c = (omega arith, c.requires.holds, λ j e. absurd (omega arith))
+loop-k-init c = record { puts = c.requires.empty; ends = λ j e. absurd (omega arith) }
 
-pub overflow_add-k : goal.overflow_add-k
-overflow_add-k c = omega arith
+-- with the records of one page more
+module _ (c : After-put_page) where
+  abbrev form : Form
+  form = as_form c.args.form
 
-pub bounds-line-k : goal.bounds-line-k
-bounds-line-k c = omega arith
+  abbrev image : List ℕ
+  image = c.args.image.now
 
-pub put_page-passed-requires : goal.put_page-passed-requires
-put_page-passed-requires c =
-    let k = c.loop-k.k in (
-      c.requires.lawful,
-      (let l = c.requires.passes.places k (omega arith) in omega arith),
-      slots_few c.requires.passes k c.if-k-used.n (omega arith)
-          (passed (goal.at.put_page-passed-requires c).Joined-k-used),
-      c.requires.passes.within k (omega arith),
-    )
+  abbrev line : List ℕ
+  line = c.args.look.now.line.items
 
-pub overflow_add-k-in-loop-k : goal.overflow_add-k-in-loop-k
-overflow_add-k-in-loop-k c = omega arith
+  abbrev k : ℕ
+  k = c.loop-k.k
 
-pub loop-k-smaller : goal.loop-k-smaller
-loop-k-smaller c = omega arith
+  few : k < length line
+  few = omega (arith, ap length c.deref-page-items.ensures.0)
+
+  -- so many slots are passed
+  passed : Passed form (length line) c.args.look.now.free k c.if-is_active.n
+  passed = elim c.if-is_active.branch [ then-is_active w ↦ inl (omega arith, w.n-is) | else-is_active w ↦ inr w.n-is ]
+
+  page : get_or c.deref-page-items.result.now k 0 ≡ get_or line k 0
+  page = ap (λ xs. get_or xs k 0) c.deref-page-items.ensures.0
+
+  abbrev recorded : ℕ → List Setting
+  recorded p = records form.edition (take c.if-is_active.n (slots_in form p image))
+
+  put_in : put_all c.loop-k.table (recorded (get_or c.deref-page-items.result.now k 0)) ≡ put_all [] (gathered form image (take (k + 1) line))
+  put_in =
+      ap (λ q. put_all c.loop-k.table (recorded q)) page
+      ∙ ap (put_all c.loop-k.table) (all_passed c.requires.passes k c.if-is_active.n few passed)
+      ∙ ap (λ t. put_all t (records form.edition (slots_in form (get_or line k 0) image))) c.loop-k.invariant.puts
+      ∙ gather_more form image line k few
+
+pub returns-in_err-open_group-clause-value : goal.returns-in_err-open_group-clause-value
+returns-in_err-open_group-clause-value c =
+    let b = (goal.at.returns-in_err-open_group-clause-value c).After-put_page in
+    let e = err_from_is_err_and c.from_residual.result c.from_residual.ensures.1 in
+    let rest = gathered_rest (form b) (image b) (line b) (k b + 1) in
+    let many = c.in_err-open_group.ensures.value in
+    rw (e.1, rest.1) (many_more [] _ rest.0 (omega (arith, ap length (put_in b), many)))
 
 pub loop-k-preserved : goal.loop-k-preserved
 unfolding Ends
 loop-k-preserved c =
-    let joined_k_used = (goal.at.loop-k-preserved c).Joined-k-used in
-    let a = c.args in
-    let l = c.loop-k in
-    let n = c.if-k-used.n in
-    let fm = as_form a.form in
-    let image = a.image.now in
-    let line = a.line.now in
-    let all = all_passed c.requires.passes l.k n (omega arith) (passed joined_k_used) in
-    let put = c.put_page-passed.ensures in
-    let ends = put.group_value ∙ all_ends c.requires.passes l.k n (omega arith) (passed joined_k_used) in (
-      omega arith,
-      gather_more fm image line l.k (omega arith) n all l.invariant.1 put.fact,
-      λ j e.
-          let same : l.k ≡ j = omega arith in
-          subst (λ (x : ℕ). c.put_page-passed.result.group ≡ in_group (standing a.form.edition (slots_in fm (get_or line x 0) image))) same ends,
-    )
-
-pub returns : goal.returns
-returns c =
-    let a = c.args in
-    let l = c.loop-k in
-    let fm = as_form a.form in
-    let image = a.image.now in
-    let line = a.line.now in
-    let e : l.k ≡ a.used = omega arith in
+    let b = (goal.at.loop-k-preserved c).After-put_page in
+    let ends = c.in_ok-open_group.ensures.group
+    ∙ ap (λ q. in_group (standing (form b).edition (take b.if-is_active.n (slots_in (form b) q (image b))))) (page b)
+    ∙ all_ends c.requires.passes (k b) b.if-is_active.n (few b) (passed b) in
     record {
-      holds_2 = subst (λ (k : ℕ). Holds l.addresses l.values l.held (put_all [] (gathered fm image (take k line)))) e l.invariant.1;
-      ends = subst (λ (k : ℕ). Ends fm image line k l.group) e l.invariant.2;
+      puts = c.in_ok-open_group.ensures.value ∙ put_in b;
+      ends = λ j e.
+          let same : k b ≡ j = omega arith in
+          subst (λ (x : ℕ). c.in_ok-open_group.open_group ≡ in_group (standing (form b).edition (slots_in (form b) (get_or (line b) x 0) (image b)))) same ends;
     }

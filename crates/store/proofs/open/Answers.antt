@@ -1,69 +1,57 @@
--- The look, the settings of the used pages, and the number of both.
-use Prim.Native.Nat.{ℕ}
-use mathlib.Core.Path.{◌≡◌, sym, ◌∙◌, subst}
-use mathlib.Core.List.{List}
-use Rattle.rules.specs.Page.{Form}
-use Rattle.rules.specs.Store.{settings}
-use Rattle.rules.specs.Call.{pages, store_number}
+-- The look, the settings of the used pages, and whether a group is open.
+use Prim.Native.Nat.{◌<◌}
+use mathlib.Core.Path.{◌≡◌, sym, ap, ◌∙◌}
+use mathlib.Core.Bool.{Bool, ◌&&◌}
+use native.Mathlib.Omega.{arith}
+use lib.ListN.{length}
+use lib.Dec.{ltb}
+use borrow.Author.Tests.{lt-ltb, le-ltb}
+use Rattle.std.proofs.lemmas.Result.{err_from_is_err_and}
+use Rattle.rules.specs.Store.{settings, held}
+use Rattle.rules.specs.Call.{pages}
 use Rattle.pages.specs.Read.{as_form}
-use Rattle.survey.specs.declared.Look.{Look}
-use Rattle.survey.specs.Look.{Looks}
-use Rattle.settings.specs.Held.{Holds}
+use Rattle.survey.proofs.Refusals.{is_refusal}
 use Rattle.store.proofs.Gathering.{passes, gathered_settings, group_told}
-use Rattle.store.proofs.Opening.{with_held_is, pages_ok, over_held}
+use Rattle.store.proofs.Opening.{refused_by_pages, refused_by_held, accepted_by_held}
 use Rattle.store.proofs.open.Goals as goal
-use Rattle.store.proofs.open.Goals.{After-number_of}
+use Rattle.store.proofs.open.Goals.{then-look-form, else-look-form}
 
--- of pages that are not refused, the table has the settings
-module _ (c : After-number_of) where
-  abbrev image : List ℕ
-  image = c.args.image.now
+pub returns-in_err-look : goal.returns-in_err-look
+returns-in_err-look c =
+    let e = err_from_is_err_and c.from_residual.result c.from_residual.ensures.1 in
+    rw (e.1, e.2) (refused_by_pages (as_form c.args.form) c.args.image.now _ c.in_err-look.ensures (is_refusal _))
 
-  abbrev form : Form
-  form = as_form c.args.form
+pub gather-requires-clause-passes : goal.gather-requires-clause-passes
+gather-requires-clause-passes c = let told = c.in_ok-look.ensures in passes told.0 told.1
 
-  abbrev look : Look
-  look = c.look_at-look.result
-
-  looks : Looks form image look
-  looks = c.look_at-look.ensures
-
-  abbrev addresses : List ℕ
-  addresses = c.gather-passed.new.addresses
-
-  abbrev values : List ℕ
-  values = c.gather-passed.new.values
-
-  abbrev held : ℕ
-  held = c.gather-passed.result.held
-
-  holds : look.number ≡ 0 → Holds addresses values held (settings (pages form image))
-  holds z =
-      subst (Holds addresses values held) (gathered_settings form image look.line look.used (looks.told z).line) c.gather-passed.ensures.holds_2
-
-  number : c.number_of.result ≡ store_number form image
-  number =
-      c.number_of.ensures
-      ∙ with_held_is form image look.number held looks.number (λ z. over_held form image addresses values held (holds z))
-
-pub gather-passed-requires : goal.gather-passed-requires
-gather-passed-requires c =
-    record { lawful = c.requires.lawful; passes = passes c.look_at-look.ensures; holds = c.requires.holds }
-
-pub returns : goal.returns
-returns c =
-    let after_number_of = (goal.at.returns c).After-number_of in
+pub returns-after-look-form : goal.returns-after-look-form
+unfolding held
+returns-after-look-form c =
+    let fm = as_form c.args.form in
+    let i = c.args.image.now in
+    let look = c.in_ok-look.look in
+    let told = c.in_ok-look.ensures in
+    let opened = c.in-Ok.open_group in
+    let holds : c.gather.new.table ≡ settings (pages fm i) = c.in-Ok.ensures.value ∙ gathered_settings told.0 told.1 in
+    let few = c.len-held.ensures.few in
+    let grouped : c.if-look-form.group ≡ (ltb look.free fm.slot_count && opened) =
+    elim c.if-look-form.branch [
+      | then-look-form w ↦ w.group-is ∙ ap (λ (b : Bool). b && opened) (sym (lt-ltb look.free fm.slot_count (omega arith)))
+      | else-look-form w ↦
+          let full = le-ltb look.free fm.slot_count (omega arith) in
+          w.group-is ∙ full ∙ ap (λ (b : Bool). b && opened) (sym full)
+    ] in
     record {
-      number = number after_number_of;
-      holding = λ z.
-          let ok = pages_ok (form after_number_of) (image after_number_of) (look after_number_of).number (looks after_number_of).number
-          (sym (number after_number_of) ∙ z) in
-          let told = (looks after_number_of).told ok in
-          record {
-            told = told;
-            holds = holds after_number_of ok;
-            grouped = c.is_open.ensures
-                ∙ group_told (form after_number_of) (image after_number_of) (look after_number_of) c.gather-passed.result.group
-                (sym (looks after_number_of).number ∙ ok) told c.gather-passed.ensures.ends;
-          };
+      accepted = accepted_by_held fm i told.0 (omega (arith, ap length holds, c.len-held.ensures.value, few));
+      told = told.1;
+      holds = holds;
+      few = omega (arith, c.len-held.ensures.value, few);
+      grouped = grouped ∙ group_told told.0 told.1 opened c.in-Ok.ensures.ends;
     }
+
+pub returns-in-Err : goal.returns-in-Err
+unfolding held
+returns-in-Err c =
+    let told = c.in_ok-look.ensures in
+    let many : 192 < _ = c.in-Err.ensures.value in
+    refused_by_held (as_form c.args.form) c.args.image.now told.0 (omega (arith, ap length (gathered_settings told.0 told.1), many))

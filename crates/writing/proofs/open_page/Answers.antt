@@ -1,75 +1,60 @@
 -- The opening word, and then the change.
-use Prim.Native.Nat.{◌+◌}
-use mathlib.Core.Path.{◌≡◌}
+use Prim.Native.Nat.{◌≤◌}
 use mathlib.Core.List.{List}
 use native.Mathlib.Omega.{arith}
 use lib.ListN.{length, length-append}
 use Rattle.rules.specs.Flash.{Step}
 use Rattle.rules.specs.Word.{opening_word, word_steps}
-use Rattle.rules.specs.Page.{size}
-use Rattle.rules.specs.Steps.{append_steps, open_steps}
-use Rattle.rules.proofs.Lengths.{word_length}
-use Rattle.pages.specs.Read.{as_form}
-use Rattle.choosing.specs.Way.{change_of}
-use Rattle.writing.specs.Plans.{Part}
-use Rattle.writing.proofs.Changes.{entries_few, words_few, append_long}
-use Rattle.writing.proofs.Parts.{word_part, part_first, part_next, part_then, does}
+use Rattle.rules.specs.Steps.{words_of, append_steps, open_steps}
+use Rattle.rules.proofs.Lengths.{word_length, slots_long}
+use Rattle.changes.specs.Read.{as_change}
+use Rattle.steps.specs.Done.{Done}
+use Rattle.steps.proofs.Doing.{may_first, may_next, done_then}
+use Rattle.writing.proofs.Changes.{words_few}
 use Rattle.writing.proofs.open_page.Goals as goal
-use Rattle.writing.proofs.open_page.Goals.{After-program_word-left, Start}
+use Rattle.writing.proofs.open_page.Goals.{Start, After-program_word}
 
 module _ (c : Start) where
   abbrev opening : List Step
   opening = word_steps c.args.page 1 (opening_word 1 c.args.order)
 
   abbrev changing : List Step
-  changing = append_steps c.args.page 0 (change_of c.args.marks c.args.entries.now)
+  changing = append_steps c.args.page 0 (as_change c.args.change.now)
 
-  long : length (open_steps c.args.page c.args.order (change_of c.args.marks c.args.entries.now)) ≡ 2 + length changing
-  unfolding open_steps append_steps
-  long = omega (arith, length-append opening changing, word_length c.args.page 1 (opening_word 1 c.args.order))
-
-abbrev start : After-program_word-left → Start
-start c = c.before.before.before.before.before.before
+  long : length changing ≤ 20
+  unfolding append_steps
+  long = omega (arith, slots_long c.args.page 0 (words_of (as_change c.args.change.now)), words_few _ c.args.change.now c.requires.right)
 
 -- what the first word left
-opened : (c : After-program_word-left)
-    → Part (as_form (start c).args.form) (start c).args.allowance (opening (start c)) (start c).args.image.now c.program_word-left.new.image
-    c.program_word-left.result
-opened c =
-    word_part (as_form (start c).args.form) (start c).args.page 1 c.opening_word-opening.ensures c.program_word-left.ensures.value
-    c.program_word-left.ensures.image_after
+opened : (c : After-program_word) → Done c.args.steps.now (word_steps c.args.page 1 (opening_word 1 c.args.order)) c.program_word.new.self
+opened c = rw c.opening_word.ensures at c.program_word.ensures
 
-pub program_word-left-requires : goal.program_word-left-requires
+pub program_word-requires-clause-allowed : goal.program_word-requires-clause-allowed
 unfolding open_steps append_steps
-program_word-left-requires c =
-    let s = (goal.at.program_word-left-requires c).Start in
-    let a = s.args in record {
-      lawful = (s.requires.lawful.0, s.requires.lawful.1, omega (arith, s.requires.lawful.0.0));
-      all_allowed = rw c.opening_word-opening.ensures
-          (part_first (size (as_form a.form)) a.allowance (opening s) (changing s) a.image.now s.requires.all_allowed);
-    }
+program_word-requires-clause-allowed c =
+    let s = (goal.at.program_word-requires-clause-allowed c).Start in
+    rw c.opening_word.ensures (may_first s.args.steps.now (opening s) (changing s) s.requires.allowed)
 
-pub program_change-requires : goal.program_change-requires
+pub append-requires-clause-place : goal.append-requires-clause-place
+append-requires-clause-place c =
+    let p = (goal.at.append-requires-clause-place c).After-program_word in
+    (c.requires.place.0, rw (opened p).same_form (omega (arith, words_few _ c.args.change.now c.requires.right, c.args.steps.now.form.fits)))
+
+pub append-requires-clause-allowed : goal.append-requires-clause-allowed
 unfolding open_steps append_steps
-program_change-requires c =
-    let after_program_word_left = (goal.at.program_change-requires c).After-program_word-left in
-    let s = start after_program_word_left in
-    let w = words_few s.requires.lawful.3 in
-    record {
-      lawful = (s.requires.lawful.0, s.requires.lawful.1, s.requires.lawful.3, omega (arith, s.requires.lawful.0.0));
-      all_allowed = part_next (opened after_program_word_left) (changing s) s.requires.all_allowed;
-    }
+append-requires-clause-allowed c =
+    let p = (goal.at.append-requires-clause-allowed c).After-program_word in
+    may_next (opened p) (changing (goal.at.append-requires-clause-allowed c).Start) c.requires.allowed
 
-pub change_steps-requires : goal.change_steps-requires
-change_steps-requires c = entries_few c.requires.lawful.3
-
-pub overflow_add-change_steps : goal.overflow_add-change_steps
-overflow_add-change_steps c = omega (arith, c.change_steps.ensures.upper_bound)
+pub overflow_add-result : goal.overflow_add-result
+overflow_add-result c = omega (arith, c.append.ensures.many, long (goal.at.overflow_add-result c).Start)
 
 pub returns : goal.returns
 unfolding open_steps append_steps
 returns c =
-    let after_program_word_left = (goal.at.returns c).After-program_word-left in
-    let s = start after_program_word_left in
-    let l = append_long s.requires.lawful.3 s.args.page 0 in
-    does (omega (arith, long s, c.change_steps.ensures.value)) (part_then (opened after_program_word_left) c.program_change.ensures) c.done.ensures
+    let p = (goal.at.returns c).After-program_word in
+    let s = (goal.at.returns c).Start in
+    record {
+      done = done_then (opened p) c.append.ensures.done;
+      many = omega (arith, c.append.ensures.many, length-append (opening s) (changing s), word_length c.args.page 1 (opening_word 1 c.args.order));
+    }
