@@ -88,7 +88,8 @@ fn new_page(look: &Look) -> Result<Way, Refusal>
     Ok(Way::Open { page, order })
 }
 
-// What a table tells of a change: how many of its addresses are new, and whether all have their values.
+// What a table tells of a change: how many of its addresses are new, and whether all have their values. One doesn't follow from the
+// other: an address that is held may have another value.
 #[derive(Clone, Copy, Debug, PartialEq, Eq)]
 pub struct Known {
     pub new: usize,

@@ -44,5 +44,6 @@ paired_is (a ∷ []) h = absurd (omega arith)
 paired_is (a ∷ b ∷ []) h = absurd (omega arith)
 paired_is (a ∷ b ∷ c ∷ []) h = absurd (omega arith)
 paired_is (a ∷ b ∷ c ∷ d ∷ []) h =
-    rw (told a, told b, told c, told d, valued a, valued b, valued c, valued d, all_four (is_held (as_option a)) (is_held (as_option b)) (is_held (as_option c)) (is_held (as_option d))) refl
+    let four = all_four (is_held (as_option a)) (is_held (as_option b)) (is_held (as_option c)) (is_held (as_option d)) in
+    rw (told a, told b, told c, told d, valued a, valued b, valued c, valued d, four) refl
 paired_is (a ∷ b ∷ c ∷ d ∷ e ∷ os) h = absurd (omega arith)

@@ -91,4 +91,5 @@ pub setting_here : (items : List Numbers) {table : List Setting} → map as_sett
     → take (j + 1) table ≡ take j table ++ (as_setting (get_or items j none) ∷ [])
 setting_here items {table} e j none l =
     rw (← e, add-one)
-    (take-suc (map as_setting items) j (as_setting none) (rw length-map l) ∙ ap (λ (s : Setting). take j (map as_setting items) ++ s ∷ []) (get_or-map as_setting items j none))
+    (take-suc (map as_setting items) j (as_setting none) (rw length-map l)
+    ∙ ap (λ (s : Setting). take j (map as_setting items) ++ s ∷ []) (get_or-map as_setting items j none))

@@ -65,7 +65,8 @@ pub fn open(image: &[u8], form: Form, table: &mut Table) -> Result<Store, Refusa
 {
     let look = survey::look_at(image, form)?;
     match gather(image, form, &look, table) {
-        // S13. Open group: there is a free slot, and it stands in a group. That at most 192 addresses are held, the table's length says.
+        // S13. Open group: there is a free slot, and it stands in a group. The length is asked for its contract alone: at most 192
+        // addresses are held, and they rise.
         Ok(open_group) => {
             let _held = table.len();
             let group = look.free < form.slots && open_group;

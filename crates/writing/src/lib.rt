@@ -28,7 +28,8 @@ use steps::Steps;
 use store::Store;
 use survey::{Refusal, Role};
 
-// What a call that is not refused did: whether it is finished, and how many steps it took.
+// What a call that is not refused did: whether it is finished, and how many steps it took. Both, as the rules and C have them: a call
+// may be finished or not at the same number of steps.
 #[derive(Clone, Copy, Debug, PartialEq, Eq)]
 pub struct Outcome {
     pub finished: bool,

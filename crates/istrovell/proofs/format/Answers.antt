@@ -28,7 +28,8 @@ returns-in_err-chip c =
     let i = a.image.now in
     let p = err_from_is_err_and c.from_residual.result c.from_residual.ensures.1 in
     let m = missed c.chip_of.result c.in_err-chip.field-0.0 (sym c.ok_or.ensures.value ∙ c.in_err-chip.was) in
-    rw (p.1, p.2, m.1) (sym (on_none (chip_of a.page_size) (sym c.chip_of.ensures ∙ ap as_named m.0) (refused_format SIZE i) (λ chip. format (told_form chip a.second) i)))
+    let none = sym c.chip_of.ensures ∙ ap as_named m.0 in
+    rw (p.1, p.2, m.1) (sym (on_none (chip_of a.page_size) none (refused_format SIZE i) (λ chip. format (told_form chip a.second) i)))
 
 pub returns : goal.returns
 returns c =

@@ -1,6 +1,7 @@
 -- Each arm does the steps of the way that was chosen.
 use Rattle.writing.proofs.Changes.{entries_few}
-use Rattle.writing.proofs.Ways.{right, stayed, append_fits, append_allowed, appended, open_fits, open_allowed, opened, tabled, move_fits, move_allowed, moved_all}
+use Rattle.writing.proofs.Ways.{right, stayed, append_fits, append_allowed, appended, open_fits, open_allowed, opened}
+use Rattle.writing.proofs.Ways.{tabled, move_fits, move_allowed, moved_all}
 use Rattle.writing.proofs.follow.Goals as goal
 
 pub append-requires-clause-right : goal.append-requires-clause-right

@@ -63,7 +63,8 @@ module _ (s : After-as_slice-setting-items) where
   from_row : (j : ℕ) → j < length items → among (address j) (map address_of rs) ≡ false → (more : List Word) × (all ≡ ws j ++ word j ∷ more)
   from_row j l named =
       let from = copied_from table rs (j + 1) in
-      (from.0, from.1 ∙ ap (λ (vs : List Word). vs ++ from.0) (is_kept table rs j (address j) (at j).value (here j l) named) ∙ append_snoc (ws j) (word j) from.0)
+      let next = is_kept table rs j (address j) (at j).value (here j l) named in
+      (from.0, from.1 ∙ ap (λ (vs : List Word). vs ++ from.0) next ∙ append_snoc (ws j) (word j) from.0)
 
   place : {slot : ℕ} (j : ℕ) → slot ≡ length (ws j) → 3 + slot ≡ 3 + (0 + length (ws j))
   place j e = omega arith
@@ -101,7 +102,8 @@ loop-setting-preserved c =
     let j = l.setting-index in
     elim c.if-not-names_from.branch [
       | then-not-names_from w ↦
-          let next = is_kept (table s) (rs s) j (address s j) (at s j).value (here s j c.loop-setting-test.true) (sym c.names_from.ensures ∙ w.if-not-names_from.true) in
+          let named = sym c.names_from.ensures ∙ w.if-not-names_from.true in
+          let next = is_kept (table s) (rs s) j (address s j) (at s j).value (here s j c.loop-setting-test.true) named in
           rw (w.self-is, w.slot-is, next) (record {
             behind = omega (arith, l.invariant.behind, length-append (ws s j) (word s j ∷ []));
             few = omega arith;
@@ -109,7 +111,8 @@ loop-setting-preserved c =
                 (rw w.record_word-w.ensures at w.program_word.ensures);
           })
       | else-not-names_from w ↦
-          let next = is_left_out (table s) (rs s) j (address s j) (at s j).value (here s j c.loop-setting-test.true) (sym c.names_from.ensures ∙ w.if-not-names_from.false) in
+          let named = sym c.names_from.ensures ∙ w.if-not-names_from.false in
+          let next = is_left_out (table s) (rs s) j (address s j) (at s j).value (here s j c.loop-setting-test.true) named in
           rw (w.self-is, w.slot-is, next) (record { behind = l.invariant.behind; few = omega arith; copied = l.invariant.copied })
     ]
 
