@@ -17,9 +17,9 @@ use Rattle.words.specs.Read.{word_in}
 use Rattle.groups.proofs.Standing.{place_at, next_slots}
 use Rattle.survey.specs.States.{slots_in}
 use Rattle.survey.specs.declared.Look.{Look}
-use Rattle.survey.specs.Look.{pages_number, Lines, Told}
+use Rattle.survey.specs.Look.{pages_number, line_of, Lines, Told}
 use Rattle.survey.proofs.Slots.{slots_many}
-use Rattle.survey.proofs.Looking.{line_next, line_pages, told_few, line_places, line_within}
+use Rattle.survey.proofs.Looking.{told_line, line_next, line_pages, told_few, line_places, line_within}
 use Rattle.broken.specs.declared.Broken.{Broken}
 use Rattle.broken.specs.Counts.{Counts}
 
@@ -86,7 +86,7 @@ module _ (fm : Form) (i line : List ℕ) where
 -- at a place of the line, as the code reads it
 module _ {fm : Form} {i : List ℕ} {look : Look} (ok : pages_number fm i ≡ 0) (t : Told fm i look) where
   abbrev line : List ℕ
-  line = look.line.items
+  line = line_of look
 
   module _ {xs : List ℕ} (same : xs ≡ line) (k : ℕ) (l : k < length xs) where
     pub page_inside : (get_or xs k 0 ≤ 32) × (get_or xs k 0 * size fm + size fm ≤ length i)
@@ -99,7 +99,7 @@ module _ {fm : Form} {i : List ℕ} {look : Look} (ok : pages_number fm i ≡ 0)
       page_few =
           let ss = slots_in fm (get_or xs k 0) i in
           let many = conditions_many outside (map (slot fm.edition) ss) in (
-            omega (arith, ap length same, (told_few ok t).1),
+            omega (arith, ap length same, (told_few ok t).1, told_line ok t),
             omega (arith, counts_few p, many, length-map ss (slot fm.edition), slots_many fm (get_or xs k 0) i page_inside.1),
           )
 

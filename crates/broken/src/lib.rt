@@ -88,7 +88,7 @@ pub fn count(image: &[u8], form: Form, look: &Look) -> Broken
     ensures spoiled_bound { result.half + result.spoiled ≤ 16288 }
 {
     let mut broken = Broken::default();
-    for page in look.line.as_slice() {
+    for page in &look.line[..look.used] {
         broken += of_page(image, form, *page as usize);
     }
     broken

@@ -21,7 +21,7 @@ use Rattle.rules.proofs.Truth.{by_cases, and_left, or_false_left, or_false_right
 use Rattle.rules.proofs.Groups.{grouped}
 use Rattle.rules.proofs.Stores.{length_states, taken_at, count_all}
 use Rattle.rules.proofs.Ready.{right_sizes, size_right, undamaged, active_within, taken_within}
-use Rattle.rules.proofs.Answers.{write_unclean, write_group, write_last, write_foreign, write_same, write_full, write_end, write_ok}
+use Rattle.rules.proofs.Answers.{write_store, write_unclean, write_group, write_last, write_foreign, write_same, write_full, write_end, write_ok}
 use Rattle.changes.specs.declared.change.Change.{Change as Bytes}
 use Rattle.changes.specs.Read.{as_change}
 use Rattle.changes.specs.Entries.{byte_address, byte_value, change_of, Lent}
@@ -29,8 +29,11 @@ use Rattle.changes.proofs.Entries.{entry, from_entry, none_behind, length_triple
 use Rattle.survey.specs.declared.Role.{Role}
 use Rattle.survey.specs.declared.Look.{Look}
 use Rattle.survey.specs.declared.refusal.Refusal.TheVariants.{NoRoom, OrderEnd}
-use Rattle.survey.specs.Look.{Told}
+use Rattle.survey.specs.Look.{Told, roles_of}
 use Rattle.survey.proofs.Slots.{slots_are, slots_many}
+use Rattle.survey.specs.declared.refusal.Refusal.{Refusal}
+use Rattle.survey.specs.Refusals.{number_of}
+use Rattle.survey.proofs.Refusals.{is_refusal}
 use Rattle.survey.proofs.Looking.{counted}
 use Rattle.store.specs.declared.Store.{Store}
 use Rattle.store.specs.Opened.{Holding}
@@ -116,14 +119,14 @@ module _ {fm : Form} {i : List ℕ} {look : Look} (t : Told fm i look) (ok : sto
   few : length all ≤ 32
   few = omega (arith, all_long, t.counts, (right_sizes fm i sized).most)
 
-  pub used_few : length look.line.items + look.cleared ≤ 32
+  pub used_few : look.used + look.cleared ≤ 32
   used_few = omega (arith, counted t, all_long, few)
 
-  pub some_unclean : length look.line.items + look.cleared < look.count → is_unclean (pages fm i) ≡ true
+  pub some_unclean : look.used + look.cleared < look.count → is_unclean (pages fm i) ≡ true
   unfolding is_unclean
   some_unclean l = let e = counted t in rw (ne_eqb (count (unclean (base all)) all) 0 (λ z. omega arith))
 
-  pub by_group : (g : Bool) → g ≡ open_group (pages fm i) → look.count ≤ length look.line.items + look.cleared → is_unclean (pages fm i) ≡ g
+  pub by_group : (g : Bool) → g ≡ open_group (pages fm i) → look.count ≤ look.used + look.cleared → is_unclean (pages fm i) ≡ g
   unfolding is_unclean
   by_group g e l = let n = counted t in rw (eq-eqb (count (unclean (base all)) all) 0 (omega arith)) (sym e)
 
@@ -162,12 +165,12 @@ module _ {fm : Form} {i : List ℕ} {look : Look} (t : Told fm i look) (ok : sto
       let none = eqb-true (count (unclean (base all)) all) 0 (not-false _ (or_false_left (not (eqb (count (unclean (base all)) all) 0)) _ clean)) in
       ne (omega (arith, count_all (base all) all))
 
-  pub some_taken : is_unclean (pages fm i) ≡ false → IsSome (index_in (chosen look.roles.items))
+  pub some_taken : is_unclean (pages fm i) ≡ false → IsSome (index_in (chosen (roles_of look)))
   some_taken clean =
       subst (λ rs. IsSome (index_in (chosen rs))) (sym t.roles)
       (subst (λ a. IsSome (index_in a)) (sym (least_roles (base all) 0 all ∙ (taken_at 0 (pages fm i) (cleared_some clean)).place)) refl)
 
-  taken_is : index (chosen look.roles.items) ≡ index (least_worn 0 all)
+  taken_is : index (chosen (roles_of look)) ≡ index (least_worn 0 all)
   taken_is = ap (λ (rs : List Role). index (chosen rs)) t.roles ∙ ap index (least_roles (base all) 0 all)
 
   -- ---- new records
@@ -187,14 +190,14 @@ module _ {fm : Form} {i : List ℕ} {look : Look} (t : Told fm i look) (ok : sto
         )
 
     -- the page of least wear, opened or moved to
-    pub opens_page : fm.slot_count < look.free + length (words_of c) → Chosen fm owner c i (new_page_of look.roles.items look.cleared look.order)
+    pub opens_page : fm.slot_count < look.free + length (words_of c) → Chosen fm owner c i (new_page_of (roles_of look) look.cleared look.order)
     unfolding new_page_of way new_page taken next_order order_end Fitting
     opens_page l =
         let f = no_slots (length (words_of c)) l in
         let p = taken_is in
         let w = taken_within fm i ok clean in
         let most = (right_sizes fm i sized).most in
-        let inside : index (chosen look.roles.items) < 32 = omega arith in
+        let inside : index (chosen (roles_of look)) < 32 = omega arith in
         by_cases (eqb look.order order_limit)
         (λ o. rw o (write_end fm owner c i ok clean right far own new room (rw (f, ← t.order) o)))
         (λ o.
@@ -203,6 +206,11 @@ module _ {fm : Form} {i : List ℕ} {look : Look} (t : Told fm i look) (ok : sto
         by_cases (leb 2 look.cleared)
         (λ d. rw (o, d) (accepted, rw (new, f, ← t.clears, d, ← p, ← t.order), (inside, next)))
         (λ d. rw (o, d) (accepted, rw (new, f, ← t.clears, d, ← p, ← t.order), (inside, next))))
+
+-- ---- what refuses the image
+
+pub refused_store : (fm : Form) (o : Owner) (i : List ℕ) (c : Change) (e : Refusal) → store_number fm i ≡ number_of e → write_number fm o c i ≡ number_of e
+refused_store fm o i c e is = write_store fm o c i (λ z. is_refusal e (sym is ∙ z)) ∙ is
 
 -- ---- the tests before the table is asked, in the code's order
 
@@ -213,10 +221,10 @@ module _ {fm : Form} {i : List ℕ} {s : Store} {t : List Setting} (h : Holding 
   abbrev bytes : List ℕ
   bytes = ch.entries.now
 
-  pub refused_unclean : length s.look.line.items + s.look.cleared < s.look.count → write_number fm o c i ≡ UNCLEAN
+  pub refused_unclean : s.look.used + s.look.cleared < s.look.count → write_number fm o c i ≡ UNCLEAN
   refused_unclean l = write_unclean fm o c i h.accepted (some_unclean h.told h.accepted l)
 
-  module _ (m : s.look.count ≤ length s.look.line.items + s.look.cleared) where
+  module _ (m : s.look.count ≤ s.look.used + s.look.cleared) where
     unclean_is : is_unclean (pages fm i) ≡ s.group
     unclean_is = by_group h.told h.accepted s.group h.grouped m
 
@@ -295,6 +303,6 @@ module _ {fm : Form} {i : List ℕ} {s : Store} {t : List Setting} (h : Holding 
         programs l =
             appends h.told h.accepted o written p.clean p.grouped far own other (room_is ∙ room) (omega (arith, words_many, h.told.room))
 
-        pub takes_page : fm.slot_count - s.look.free < n → Chosen fm o written i (new_page_of s.look.roles.items s.look.cleared s.look.order)
+        pub takes_page : fm.slot_count - s.look.free < n → Chosen fm o written i (new_page_of (roles_of s.look) s.look.cleared s.look.order)
         takes_page l =
             opens_page h.told h.accepted o written p.clean p.grouped far own other (room_is ∙ room) (omega (arith, words_many, h.told.room))

@@ -19,6 +19,10 @@ as_way (append_to p k) = Append p k
 as_way (open_at p o) = Open p o
 as_way (move_to p o) = Move p o
 
+-- the form of two numbers, whatever they are
+abbrev pub numbered : (slots edition : ℕ) → Form
+numbered n e = record { slot_count = n; edition = e }
+
 -- the pages, slots and orders in a way are such as there are
 unfoldable pub Fitting : Form → Change → Way → Type 0
 Fitting fm c Stay = Unit {0}

@@ -2,23 +2,23 @@
 
 #![tactic(auto)]
 
-ghost use Rattle.std.specs.Prelude.{◌≡◌, false, ◌||◌, List, ℕ, ◌+◌, ◌≤◌, ◌<◌, length, IsSome};
+ghost use Rattle.std.specs.Prelude.{◌≡◌, false, ◌||◌, List, ℕ, ◌+◌, ◌≤◌, ◌<◌, length, IsSome, MatchResult, Ok, Err};
 ghost use Rattle.rules.specs.Page.{Page};
 ghost use Rattle.rules.specs.Store.{Setting, better, settings, count};
 ghost use Rattle.rules.specs.Owner.{is_own};
 ghost use Rattle.rules.specs.Call.{a_wrong_address, wrong_group, new_in, no_room, crowded, triples, group_of};
 ghost use Rattle.owners.specs.Read.{as_owner};
 ghost use Rattle.changes.specs.Read.{as_change};
-ghost use Rattle.pages.specs.Read.{as_form};
 ghost use Rattle.settings.specs.Held.{as_option};
-ghost use Rattle.store.specs.Opened.{Holding, Opened};
+ghost use Rattle.survey.specs.Look.{roles_of};
+ghost use Rattle.store.specs.Opened.{Holding, Opens, Opened};
 ghost use Rattle.choosing.specs.Candidate.{offer, as_candidate, index_in, chosen};
 ghost use Rattle.choosing.specs.Known.{Adds, Knows};
-ghost use Rattle.choosing.specs.Way.{new_page_of, Tested, Chosen};
+ghost use Rattle.choosing.specs.Way.{numbered, new_page_of, Tested, Chosen};
 
 use changes::Change;
 use owners::{Owner, TIMER_FIRST};
-use pages::{Form, ORDER_MAX};
+use pages::ORDER_MAX;
 use settings::{HELD_MAX, Table};
 use store::Store;
 use survey::{Look, Refusal, Role};
@@ -36,9 +36,9 @@ pub enum Way {
 // A cleared page that may be taken. It is offered each page and hands back the better of both: a form that was asked for
 // (docs/DECISIONS.md).
 #[derive(Clone, Copy, Debug, PartialEq, Eq)]
-struct Candidate {
-    index: usize,
-    wear: u16,
+pub struct Candidate {
+    pub index: usize,
+    pub wear: u16,
 }
 
 // The better of the best page so far and the page of a greater index, which has that role.
@@ -71,15 +71,15 @@ fn least_worn(roles: &[Role]) -> Option<usize>
 
 // A new page, since the active one has no free slot: the last cleared page is moved to, any other is opened.
 fn new_page(look: &Look) -> Result<Way, Refusal>
-    requires fits { look.now.order < 4194304 }
-    requires cleared { IsSome (index_in (chosen look.now.roles.items)) }
-    ensures { result ≡ new_page_of look.now.roles.items look.now.cleared look.now.order }
+    requires fits { (look.now.order < 4194304) × (look.now.count ≤ 32) }
+    requires cleared { IsSome (index_in (chosen (roles_of look.now))) }
+    ensures { result ≡ new_page_of (roles_of look.now) look.now.cleared look.now.order }
 {
     let is_last = look.order == ORDER_MAX;
     if is_last {
         return Err(Refusal::OrderEnd);
     }
-    let page = least_worn(&look.roles).unwrap();
+    let page = least_worn(&look.roles[..look.count]).unwrap();
     let order = look.order + 1;
     let is_only_one = look.cleared < 2;
     if is_only_one {
@@ -152,17 +152,23 @@ fn is_wrong(edition: u8, change: &Change) -> bool
 }
 
 // The tests that come before the table is asked, and the first that refuses the owner's change.
-fn first_tests(store: &Store, form: Form, owner: Owner, change: &Change) -> Result<(), Refusal>
-    requires { length store.now.look.line.items + store.now.look.cleared ≤ 32 }
-    ensures { (i : List ℕ) (t : List Setting) → Holding (as_form form) i store.now t
-        → Tested (as_form form) (as_owner owner) (as_change change.now) (triples change.now.entries.now) i result }
+fn first_tests(
+    store: &Store,
+    slots: usize,
+    edition: u8,
+    owner: Owner,
+    change: &Change,
+) -> Result<(), Refusal>
+    requires { store.now.look.used + store.now.look.cleared ≤ 32 }
+    ensures { (i : List ℕ) (t : List Setting) → Holding (numbered slots edition) i store.now t
+        → Tested (numbered slots edition) (as_owner owner) (as_change change.now) (triples change.now.entries.now) i result }
 {
     let look = &store.look;
-    let is_page_unclean = look.line.len() + look.cleared < look.count;
+    let is_page_unclean = look.used + look.cleared < look.count;
     if is_page_unclean || store.group {
         return Err(Refusal::Unclean);
     }
-    if is_wrong(form.edition, change) {
+    if is_wrong(edition, change) {
         return Err(Refusal::Group);
     }
     if changes::a_wrong_address(change.entries) {
@@ -203,18 +209,19 @@ fn is_full(table: &Table, owner: Owner, new: usize) -> bool
 }
 
 // What an owner's write of the change does to the image that the store and the table were opened from.
-pub fn choose(
+fn choose_way(
     store: &Store,
-    form: Form,
+    slots: usize,
+    edition: u8,
     owner: Owner,
     table: &Table,
     change: &Change,
 ) -> Result<Way, Refusal>
-    requires { Opened (as_form form) store.now table.now }
-    ensures { (i : List ℕ) → Holding (as_form form) i store.now table.now
-        → Chosen (as_form form) (as_owner owner) (as_change change.now) i result }
+    requires { (image : List ℕ) × Holding (numbered slots edition) image store.now table.now }
+    ensures { (i : List ℕ) → Holding (numbered slots edition) i store.now table.now
+        → Chosen (numbered slots edition) (as_owner owner) (as_change change.now) i result }
 {
-    first_tests(store, form, owner, change)?;
+    first_tests(store, slots, edition, owner, change)?;
     let known = told_of(table, change.entries);
     if known.same {
         return Ok(Way::Stay);
@@ -223,11 +230,34 @@ pub fn choose(
         return Err(Refusal::NoRoom);
     }
     let look = &store.look;
-    if change.slots() <= form.slots - look.free {
+    let takes = change.slots();
+    let has_room = takes <= slots - look.free;
+    if has_room {
         return Ok(Way::Append {
             page: look.active,
             slot: look.free,
         });
     }
     new_page(look)
+}
+
+// The same of an image that may be refused, of pages of any number of slots and any edition: what refuses the image refuses the write.
+pub fn choose(
+    opened: Result<&Store, Refusal>,
+    slots: usize,
+    edition: u8,
+    owner: Owner,
+    table: &Table,
+    change: &Change,
+) -> Result<Way, Refusal>
+    requires { MatchResult opened (λ store. Opened (numbered slots edition) (Ok store.now) table.now)
+        (λ refusal. Opened (numbered slots edition) (Err refusal) table.now) }
+    ensures { (i : List ℕ) → MatchResult opened.entry (λ store. Opens (numbered slots edition) i (Ok store.now) table.now)
+        (λ refusal. Opens (numbered slots edition) i (Err refusal) table.now)
+        → Chosen (numbered slots edition) (as_owner owner) (as_change change.now) i result }
+{
+    match opened {
+        Ok(store) => choose_way(store, slots, edition, owner, table, change),
+        Err(refusal) => Err(refusal),
+    }
 }

@@ -32,7 +32,8 @@ impl Place {
                 number,
                 first: next,
             },
-            (Place::Outside, _) => Place::Outside,
+            // As it was, so that a loop which passes slots writes nothing.
+            (Place::Outside, _) => self,
             _ => Place::Lost,
         }
     }

@@ -13,9 +13,9 @@ ghost use Rattle.istrovell.specs.Demands.{Formats, Recovers, Writes, WritesGroup
 
 mod answers;
 
-use answers::OK;
-pub use answers::{Pairing, Reading, Stepped};
+pub use answers::{OK, Pairing, Reading, Stepped};
 use owners::Owner;
+use pages::Chip;
 use reading::Code;
 use survey::Refusal;
 use writing::Outcome;
@@ -27,7 +27,7 @@ fn format(image: &mut [u8], page_size: u16, second: bool) -> Result<(), Refusal>
     ensures { formatted_of result image.new ≡ format_at page_size second image.old }
 {
     let chip = pages::chip_of(page_size).ok_or(Refusal::Size)?;
-    writing::format(image, chip.form(chip.told(second)))
+    writing::format(image, chip.form(Chip::told(chip.first, chip.last, second)))
 }
 
 fn recover(image: &mut [u8], page_size: u16, allowance: u16) -> Result<Outcome, Refusal>

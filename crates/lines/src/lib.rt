@@ -44,14 +44,14 @@ fn push_field<I: Integer>(text: &mut Text, word: &str, number: I)
 // Line one.
 #[tactic(auto, using(crate::proofs::Decimal::decimal_is), unfolding(crate::specs::Told::told_line))]
 fn first_line(look: &Look, held: usize, broken: Broken) -> Text
-    requires pages { (look.now.count ≤ 32) × (length look.now.line.items ≤ 32) × (look.now.cleared ≤ 32) × (look.now.order < 4194304) }
+    requires pages { (look.now.count ≤ 32) × (look.now.used ≤ 32) × (look.now.cleared ≤ 32) × (look.now.order < 4194304) }
     requires slots { (held ≤ 192) × (broken.half + broken.spoiled ≤ 16288) }
     ensures bytes { result.bytes ≡ told_line look.now held broken }
     ensures len { array_string_len result ≤ FIRST_MAX }
 {
     let mut text = Text::new();
     push_field(&mut text, "pages ", look.count);
-    push_field(&mut text, " used ", look.line.len());
+    push_field(&mut text, " used ", look.used);
     push_field(&mut text, " cleared ", look.cleared);
     push_field(&mut text, " order ", look.order);
     push_field(&mut text, " held ", held);
@@ -70,7 +70,8 @@ fn push_setting(text: &mut Text, setting: Setting)
 {
     push_field(text, "", setting.address);
     push_field(text, " ", setting.value);
-    text.push_str(LINE_END);
+    let line_end = LINE_END;
+    text.push_str(line_end);
 }
 
 // The lines of the settings, in their order.

@@ -61,11 +61,12 @@ impl Chip {
         self.first <= edition && edition <= self.last
     }
 
-    // P9. The edition that format is told: the last, which of the smaller chip is the second, or the first.
-    pub fn told(self, second: bool) -> u8
-        ensures { result ≡ cond second self.last self.first }
+    // P9. The edition that format is told: the last, which of the smaller chip is the second, or the first. Of any two numbers, and
+    // so not of a chip, which has the law of its editions.
+    pub fn told(first: u8, last: u8, second: bool) -> u8
+        ensures { result ≡ cond second last first }
     {
-        if second { self.last } else { self.first }
+        if second { last } else { first }
     }
 
     pub fn form(self, edition: u8) -> Form

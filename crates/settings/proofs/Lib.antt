@@ -1,3 +1,4 @@
 -- Laws of the code's own, for its proofs and for the crates below.
 pub mod Tables
+mod Carried
 pub mod Slots

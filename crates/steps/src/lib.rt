@@ -12,12 +12,13 @@ ghost use Rattle.rules.specs.Steps.{renew, renew_all, greatest_wear, slots_steps
 ghost use Rattle.rules.specs.Call.{first_pages, page_in, triples};
 ghost use Rattle.words.specs.Read.{as_word};
 ghost use Rattle.pages.specs.Read.{as_form, as_option};
+ghost use Rattle.settings.specs.Held.{taken};
 ghost use Rattle.steps.specs.Done.{HasPage, HasPages, May, Done};
 ghost use Rattle.steps.specs.Picked.{picked_steps, Answers};
 ghost use Rattle.steps.specs.Copied.{copied};
 
 use pages::Form;
-use settings::Table;
+use settings::{HELD_MAX, Setting};
 use words::Word;
 
 // An image whose pages are of a form, and how many steps are left.
@@ -139,15 +140,16 @@ impl Steps<'_> {
         self.program_word(page, 4 + slot + n, words::mark_word(128 + n as u8));
     }
 
-    // Copies every held address but the written ones, addresses rising, to the slots of a page, then programs the new records. The
-    // table travels by value, an array of 192 places: a form that was asked for (docs/DECISIONS.md).
-    pub fn copy(&mut self, page: usize, table: Table, entries: &[u8])
-        requires room { (page < 32) × (length (copied table (triples entries.now)) ≤ self.old.form.slots) }
-        requires allowed { May self.old (slots_steps page 0 (map record_of (copied table (triples entries.now)))) }
-        ensures { Done self.old (slots_steps page 0 (map record_of (copied table (triples entries.now)))) self.new }
+    // Copies the settings of the first places, in whatever order they stand, but those of the written addresses, to the slots of a
+    // page, then programs the new records. The places travel by value, 192 of them: a form that was asked for (docs/DECISIONS.md).
+    pub fn copy(&mut self, page: usize, settings: [Setting; HELD_MAX], held: usize, entries: &[u8])
+        requires held { held ≤ 192 }
+        requires room { (page < 32) × (length (copied (taken settings held) (triples entries.now)) ≤ self.old.form.slots) }
+        requires allowed { May self.old (slots_steps page 0 (map record_of (copied (taken settings held) (triples entries.now)))) }
+        ensures { Done self.old (slots_steps page 0 (map record_of (copied (taken settings held) (triples entries.now)))) self.new }
     {
         let mut slot = 0;
-        for setting in table.as_slice() {
+        for setting in &settings[..held] {
             if !changes::names_from(entries, 0, setting.address) {
                 let w = words::record_word(setting.address, setting.value);
                 self.program_word(page, 3 + slot, w);

@@ -7,7 +7,7 @@ use mathlib.Core.List.{List, [], ◌++◌, map, map-append}
 use native.Mathlib.Omega.{arith}
 use native.Mathlib.Numerals.{add-one}
 use lib.ListN.{length, get_or, take, drop, replicate, take-append-drop}
-use lib.Seq.{take_all, take-append_seam}
+use lib.Seq.{take_all, take-append_seam, length-take-le}
 use lib.Dec.{leb, ltb}
 use Rattle.rules.specs.Word.{Word, Slot, slot}
 use Rattle.rules.specs.Page.{Form, Page, page, blank_word}
@@ -19,7 +19,7 @@ use Rattle.rules.proofs.Slots.{FreeAt, free_at, blanks_unsound, records_before, 
 use Rattle.rules.proofs.Stores.{each_append}
 use Rattle.survey.specs.States.{slots_in}
 use Rattle.survey.specs.declared.Look.{Look}
-use Rattle.survey.specs.Look.{pages_number, Told}
+use Rattle.survey.specs.Look.{pages_number, Told, line_of}
 use Rattle.survey.proofs.Slots.{page_is, slots_are, slots_many}
 use Rattle.survey.proofs.Looking.{line_next, line_pages, told_some, line_places, line_within}
 use Rattle.store.specs.Gather.{gathered, Passes, standing, Ends}
@@ -51,10 +51,14 @@ module _ (e : ℕ) (ws : List Word) where
       ∙ ap (λ (ss : List Slot). in_group (place_behind outside ss)) (sym (map-append (slot e) free.front blanks))
       ∙ ap (λ (vs : List Word). in_group (standing e vs)) (sym free.form)
 
+-- the line has as many places as pages are used
+pub line_long : (look : Look) → (look.used ≤ 32) × (length look.line ≡ 32) → length (line_of look) ≡ look.used
+line_long look l = length-take-le look.used look.line (omega (arith, l.0, l.1))
+
 -- what the look tells is what is to be passed
 module _ {fm : Form} {i : List ℕ} {look : Look} (ok : pages_number fm i ≡ 0) (t : Told fm i look) where
   abbrev line : List ℕ
-  line = look.line.items
+  line = line_of look
 
   pub passes : Passes fm i line look.free
   unfolding active_slots active_page

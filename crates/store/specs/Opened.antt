@@ -21,7 +21,7 @@ abbrev pub Opens : (fm : Form) (i : List ℕ) → Result Store Refusal → List 
 Opens fm i (Ok r) t = Holding fm i r t
 Opens fm i (Err e) t = store_number fm i ≡ number_of e
 
--- a store and a table that were opened from some image
-pub record Opened (fm : Form) (r : Store) (t : List Setting) : Type 0 where
+-- a store and a table that were opened from some image, or what refused it
+pub record Opened (fm : Form) (r : Result Store Refusal) (t : List Setting) : Type 0 where
   pub image : List ℕ
-  pub holding : Holding fm image r t
+  pub opens : Opens fm image r t

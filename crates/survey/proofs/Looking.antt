@@ -4,11 +4,13 @@ use mathlib.Core.Path.{◌≡◌, refl, sym, ap, ap₂, ◌∙◌}
 use mathlib.Core.Bool.{Bool, true, false, cond, ◌||◌}
 use mathlib.Core.List.{List, [], ◌∷◌, map, ◌++◌, append-nil}
 use native.Mathlib.Omega.{arith}
-use lib.ListN.{length, get_or, take, drop, length-map}
+use lib.ListN.{length, get_or, take, drop, replicate, length-map}
+use lib.Seq.{get_or-take, length-take-le}
 use lib.Dec.{eqb}
 use borrow.Author.Tests.{eqb-true, eqb-false, eq-eqb, ne_eqb}
 use Rattle.std.specs.Prelude.{Option, None, Some}
 use Rattle.std.specs.List.{count_by}
+use Rattle.std.proofs.lemmas.List.{drop-replicate}
 use Rattle.std.proofs.lemmas.List.Sums.{count_by-le-length}
 use Rattle.rules.specs.Page.{Form, size, State, Page}
 use Rattle.rules.specs.Store.{Under, states, base, used, is_open, is_cleared, used_orders, count, active_index, active_order, active_page}
@@ -21,13 +23,16 @@ use Rattle.rules.proofs.Rows.{AllFail, all_fail}
 use Rattle.rules.proofs.Stores.{each_append, length_states, orders_used, count_all, count_open, count_used}
 use Rattle.rules.proofs.Told.{page_cut}
 use Rattle.rules.proofs.Ready.{Sizes, right_sizes, some_used}
+use Rattle.pages.specs.Read.{as_state}
+use Rattle.pages.specs.declared.State.{State as Code}
 use Rattle.survey.specs.declared.Role.{Role}
+use Rattle.survey.specs.declared.Role.TheVariants.{Unclean}
 use Rattle.survey.specs.declared.Look.{Look}
 use Rattle.survey.specs.States.{Paged, OrdersFit, slots_in}
 use Rattle.survey.specs.Roles.{role, order_in, is_used as is_used_role, is_cleared as is_cleared_role, rank, ranks}
 use Rattle.survey.specs.Places.{doubled, lined, at_places}
-use Rattle.survey.specs.Look.{pages_rows, pages_number, counted_number, Lines, Told}
-use Rattle.survey.proofs.Arrays.{map_next}
+use Rattle.survey.specs.Look.{pages_rows, pages_number, counted_number, line_of, roles_of, Lines, Told}
+use Rattle.survey.proofs.Arrays.{map_next, front_is, behind_is}
 use Rattle.survey.proofs.Ranks.{rank_at, rank_in, ranks_of, ranks_under}
 use Rattle.survey.proofs.Counts.{count_used_roles, count_cleared_roles, repeats_roles}
 use Rattle.survey.proofs.Active.{active_newest, active_rank, active_below, active_inside}
@@ -90,6 +95,23 @@ module _ (fm : Form) (i : List ℕ) (ok : pages_number fm i ≡ 0) where
 
 -- ---- the pages
 
+-- the roles of an image's n pages in the first places of an array; the rest is unclean
+abbrev pub HasRoles : (fm : Form) (i : List ℕ) (n : ℕ) → List Role → Type 0
+HasRoles fm i n roles =
+    (take n roles ≡ map (role (base (states (pages fm i)))) (states (pages fm i))) × (drop n roles ≡ replicate (32 - n) Unclean)
+
+-- such is one of unclean pages over which they were written
+pub has_roles : (fm : Form) (i : List ℕ) (xs : List Code) {n b : ℕ} {roles : List Role} → Paged fm i n → b ≡ base (states (pages fm i))
+    → map as_state xs ≡ states (pages fm i) → roles ≡ map (role b) (map as_state xs) ++ drop (length xs) (replicate 32 Unclean)
+    → HasRoles fm i n roles
+has_roles fm i xs {n} {b} {roles} p of_base of_states e =
+    let all = states (pages fm i) in
+    let many : length all ≡ n = length_states (pages fm i) ∙ pages_long fm i ∙ sym p.count in
+    let long : length xs ≡ n = sym (length-map xs as_state) ∙ ap length of_states ∙ many in
+    let is : roles ≡ map (role (base all)) all ++ drop n (replicate 32 Unclean) = rw (← of_base, ← of_states, ← long) e in
+    let whole : length (map (role (base all)) all) ≡ n = length-map all (role (base all)) ∙ many in
+    (front_is _ _ is whole, behind_is _ _ is whole ∙ drop-replicate n 32 Unclean)
+
 -- what the functions gave of an image of n pages: their roles, rs, and how many are used, u
 pub record Seen (fm : Form) (i : List ℕ) (n u : ℕ) (rs : List Role) : Type 0 where
   pub paged : Paged fm i n
@@ -108,7 +130,7 @@ module _ {fm : Form} {i : List ℕ} {n u : ℕ} {rs : List Role} (s : Seen fm i 
   long : length all ≡ n
   long = length_states (pages fm i) ∙ pages_long fm i ∙ sym s.paged.count
 
-  used_are : u ≡ count (used (base all)) all
+  pub used_are : u ≡ count (used (base all)) all
   used_are = s.uses ∙ ap (count_by is_used_role) s.roles_are ∙ count_used_roles (base all) all
 
   pub number_is : counted_number n u (doubled (ranks rs)) ≡ pages_number fm i
@@ -146,28 +168,34 @@ module _ {fm : Form} {i : List ℕ} {n u : ℕ} {rs : List Role} (s : Seen fm i 
     line_up : Lists (base all) 4194305 u (pages fm i)
     line_up = lists (base all) 4194305 u (pages fm i) (pages_apart fm i ok) under used_are
 
-    module _ {line : List ℕ} (e : line ≡ lined (ranks rs) 4194305 u) where
-      is_line : line ≡ lined (map (rank_in (base all)) all) 4194305 u
-      is_line = e ∙ ap (λ (xs : List ℕ). lined xs 4194305 u) ranks_are
+    -- in the first places of an array
+    module _ (before : List ℕ) {line : List ℕ} (e : line ≡ lined (ranks rs) 4194305 u ++ drop u before) where
+      is_line : take u line ≡ lined (map (rank_in (base all)) all) 4194305 u
+      is_line = front_is (lined (ranks rs) 4194305 u) before e (length_lined (ranks rs) 4194305 u) ∙ ap (λ (xs : List ℕ). lined xs 4194305 u) ranks_are
 
-      pub line_long : length line ≡ u
-      line_long = rw e (length_lined (ranks rs) 4194305 u)
+      line_long : length (take u line) ≡ u
+      line_long = ap length is_line ∙ length_lined (map (rank_in (base all)) all) 4194305 u
+
+      last_of : get_or (take u line) (u - 1) 0 ≡ active_index all
+      last_of =
+          ap (λ (ks : List ℕ). get_or ks (u - 1) 0) is_line
+          ∙ lined_last (map (rank_in (base all)) all) 4194305 u used_some ∙ active_newest 4194305 all some under
 
       pub last_is : get_or line (u - 1) 0 ≡ active_index all
-      last_is = rw is_line (lined_last (map (rank_in (base all)) all) 4194305 u used_some) ∙ active_newest 4194305 all some under
+      last_is = sym (get_or-take u line (u - 1) 0 (omega (arith, used_some))) ∙ last_of
 
-      pub line_told : Lines fm i line
+      pub line_told : Lines fm i (take u line)
       line_told =
           record {
             within = λ k l.
-                let w = under_at (length (pages fm i)) line k (rw is_line line_up.within) l in
+                let w = under_at (length (pages fm i)) (take u line) k (rw is_line line_up.within) l in
                 omega (arith, pages_long fm i);
             used = rw is_line line_up.pages;
-            last = rw line_long last_is;
+            last = rw line_long last_of;
           }
 
-      pub uses_told : length line ≡ count (used (base all)) all
-      uses_told = line_long ∙ used_are
+      pub line_rest : before ≡ replicate 32 0 → drop u line ≡ replicate (32 - u) 0
+      line_rest b = behind_is (lined (ranks rs) 4194305 u) before e (length_lined (ranks rs) 4194305 u) ∙ ap (drop u) b ∙ drop-replicate u 32 0
 
     -- ---- the active page
 
@@ -202,7 +230,7 @@ module _ {fm : Form} {i : List ℕ} {n u : ℕ} {rs : List Role} (s : Seen fm i 
 
 -- each page is used, cleared or unclean
 pub counted : {fm : Form} {i : List ℕ} {look : Look} → Told fm i look
-    → length look.line.items + look.cleared + count (unclean (base (states (pages fm i)))) (states (pages fm i)) ≡ look.count
+    → look.used + look.cleared + count (unclean (base (states (pages fm i)))) (states (pages fm i)) ≡ look.count
 counted {fm} {i} t =
     let all = states (pages fm i) in
     omega (arith, count_all (base all) all, t.uses, t.clears, length_states (pages fm i), pages_long fm i, t.counts)
@@ -240,20 +268,22 @@ module _ {fm : Form} {i : List ℕ} {look : Look} (ok : pages_number fm i ≡ 0)
   sizes = right_sizes fm i (pages_sized fm i ok)
 
   -- the numbers told are those of at most 32 pages
-  pub told_few : (look.count ≤ 32) × (length look.line.items ≤ 32) × (look.cleared ≤ 32)
+  pub told_few : (look.count ≤ 32) × (look.used ≤ 32) × (look.cleared ≤ 32)
   told_few = let all = counted t in let n = t.counts in let m = sizes.most in (omega arith, omega arith, omega arith)
 
-  pub told_some : 0 < length look.line.items
-  told_some = let l = some_used (states (pages fm i)) (pages_stored fm i ok) in let e = t.uses in omega arith
+  -- the line has as many places as pages are used
+  pub told_line : length (line_of look) ≡ look.used
+  told_line = length-take-le look.used look.line (omega (arith, told_few.1, t.long.0))
+
+  pub told_some : 0 < length (line_of look)
+  told_some = let l = some_used (states (pages fm i)) (pages_stored fm i ok) in let e = t.uses in omega (arith, told_line)
 
   -- there are as many roles as pages
-  pub told_roles : length look.roles.items ≡ look.count
-  told_roles =
-      let all = states (pages fm i) in
-      omega (arith, ap length t.roles, length-map all (role (base all)), length_states (pages fm i), pages_long fm i, t.counts)
+  pub told_roles : length (roles_of look) ≡ look.count
+  told_roles = length-take-le look.count look.roles (omega (arith, told_few.0, t.long.1))
 
-  pub line_places : (k : ℕ) → k < length look.line.items → get_or look.line.items k 0 < 32
+  pub line_places : (k : ℕ) → k < length (line_of look) → get_or (line_of look) k 0 < 32
   line_places k l = omega (arith, t.line.within k l, sizes.most)
 
-  pub line_within : (k : ℕ) → k < length look.line.items → get_or look.line.items k 0 * size fm + size fm ≤ length i
-  line_within k l = omega (arith, page_within (size fm) (page_count fm i) (get_or look.line.items k 0) (t.line.within k l), sizes.sized)
+  pub line_within : (k : ℕ) → k < length (line_of look) → get_or (line_of look) k 0 * size fm + size fm ≤ length i
+  line_within k l = omega (arith, page_within (size fm) (page_count fm i) (get_or (line_of look) k 0) (t.line.within k l), sizes.sized)

@@ -219,8 +219,9 @@ pub fn in_slot(w: Word, edition: u8) -> Slot
     ensures { as_slot (as_word w) result ≡ slot edition (as_word w) }
 {
     let has_no_address = low16(w) == NO_ADDRESS;
+    // Behind a first half of 65,535 a blank second half makes a blank word: the first half is not compared again.
     if has_no_address {
-        if is_blank(w) {
+        if is_second_blank(w) {
             return Slot::Blank;
         }
         return without_address(w, edition);

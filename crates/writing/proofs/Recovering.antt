@@ -5,7 +5,7 @@ use mathlib.Core.Bool.{Bool, true, false}
 use mathlib.Core.List.{List, [], ◌∷◌, append-nil}
 use native.Mathlib.Omega.{arith}
 use lib.ListN.{length, get_or, take, length-append, length-map}
-use Rattle.std.proofs.lemmas.List.{get_or-map}
+use Rattle.std.proofs.lemmas.List.{get_or-map, get_or-take}
 use Rattle.rules.specs.Flash.{Step}
 use Rattle.rules.specs.Word.{Word, mark_word, word_steps}
 use Rattle.rules.specs.Page.{Form, word_count, size, State, cleared, open₁, open₂, receiving, bad, Page}
@@ -98,7 +98,7 @@ unclean_role b bad = refl
 
 -- whether the page at an index is
 abbrev pub unclean_at : Look → ℕ → Bool
-unclean_at look k = is_unclean (get_or look.roles.items k (Used 0))
+unclean_at look k = is_unclean (get_or look.roles k (Used 0))
 
 -- ---- by what the store told
 
@@ -119,9 +119,8 @@ module _ {fm : Form} {i : List ℕ} {r : Store} {held : List Setting} (h : Holdi
   look_sized = rw h.told.counts sizes.sized
 
   -- there are as many roles as pages
-  pub roles_long : length look.roles.items ≡ look.count
-  roles_long =
-      omega (arith, ap length h.told.roles, length-map all (role (base all)), length_states (pages fm i), pages_long fm i, h.told.counts)
+  pub roles_long : look.count ≤ length look.roles
+  roles_long = omega (arith, look_few, h.told.long.1)
 
   active_few : look.active < look.count
   active_few = omega (arith, h.told.active, h.told.counts, active_within fm i h.accepted)
@@ -129,7 +128,8 @@ module _ {fm : Form} {i : List ℕ} {r : Store} {held : List Setting} (h : Holdi
   -- the pages that are picked are the unclean ones
   pick_is : (k : ℕ) → k < look.count → unclean_at look k ≡ unclean (base all) (get_or all k bad)
   pick_is k l =
-      ap (λ (rs : List Role). is_unclean (get_or rs k (Used 0))) h.told.roles
+      ap is_unclean (sym (get_or-take look.count look.roles k (Used 0) l))
+      ∙ ap (λ (rs : List Role). is_unclean (get_or rs k (Used 0))) h.told.roles
       ∙ ap is_unclean (get_or-map (role (base all)) all k bad (Used 0) (omega (arith, length_states (pages fm i), pages_long fm i, h.told.counts)))
       ∙ unclean_role (base all) (get_or all k bad)
 
@@ -221,7 +221,7 @@ module _ (s : Steps) {r : Store} {held : List Setting} (h : Holding (as_form s.f
   not_abandoned g = rw (abandons_none h g) (record { done = done_nothing s; many = refl })
 
   -- and then the pages are renewed
-  pub recovered : {t u : Steps} {a n : ℕ} → n ≡ r.look.count - length r.look.line.items - r.look.cleared → Does s abandoning t a
+  pub recovered : {t u : Steps} {a n : ℕ} → n ≡ r.look.count - r.look.used - r.look.cleared → Does s abandoning t a
       → Done t (picked_steps (as_form t.form) r.look.count (unclean_at r.look) t.image.now) u
       → Does s plan u (a + 3 * n)
   unfolding recovery_steps picked_steps

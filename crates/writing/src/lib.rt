@@ -82,7 +82,7 @@ pub fn recover(image: &mut [u8], form: Form, allowance: u16) -> Result<Outcome, 
     let mut table = Table::new();
     let store = store::open(image, form, &mut table)?;
     let look = &store.look;
-    let renewed = look.count - look.line.len() - look.cleared;
+    let renewed = look.count - look.used - look.cleared;
     let mut steps = Steps {
         image,
         form,
@@ -120,13 +120,13 @@ fn open_page(steps: &mut Steps, page: usize, order: u32, change: &Change) -> u16
 }
 
 // A cleared page is opened to receive, what is held is copied to it with the new records, and its done word is programmed.
-fn fill(steps: &mut Steps, page: usize, order: u32, table: Table, entries: &[u8])
-    requires place { (page < 32) × (order < 4194304) × (length (copied table (triples entries.now)) ≤ steps.old.form.slots) }
-    requires allowed { May steps.old (fill_steps page order (copied table (triples entries.now))) }
-    ensures { Done steps.old (fill_steps page order (copied table (triples entries.now))) steps.new }
+fn fill(steps: &mut Steps, page: usize, order: u32, table: &Table, entries: &[u8])
+    requires place { (page < 32) × (order < 4194304) × (length (copied table.now (triples entries.now)) ≤ steps.old.form.slots) }
+    requires allowed { May steps.old (fill_steps page order (copied table.now (triples entries.now))) }
+    ensures { Done steps.old (fill_steps page order (copied table.now (triples entries.now))) steps.new }
 {
     steps.program_word(page, 1, words::opening_word(2, order));
-    steps.copy(page, table, entries);
+    steps.copy(page, *table.places(), table.len(), entries);
     steps.program_word(page, 2, words::done_word(order));
 }
 
@@ -145,25 +145,25 @@ fn move_to(
     page: usize,
     order: u32,
     n: usize,
-    table: Table,
+    table: &Table,
     entries: &[u8],
 ) -> u16
     requires place { (page < n) × (n ≤ 32) × (length steps.old.image.now ≡ n * size (as_form steps.old.form)) × (order < 4194304) }
     requires short { length entries.now ≤ 26 }
-    requires tabled { Tabled table (triples entries.now) }
-    requires allowed { May steps.old (fill_steps page order (copied table (triples entries.now))) }
-    ensures { Does steps.old (move_steps steps.old.form.edition page order (copied table (triples entries.now))
+    requires tabled { Tabled table.now (triples entries.now) }
+    requires allowed { May steps.old (fill_steps page order (copied table.now (triples entries.now))) }
+    ensures { Does steps.old (move_steps steps.old.form.edition page order (copied table.now (triples entries.now))
         (first_pages (as_form steps.old.form) n steps.old.image.now)) steps.new result }
 {
-    let copies = copy_count(&table, entries);
+    let copies = copy_count(table, entries);
     fill(steps, page, order, table, entries);
     steps.renew_picked(n, |other| other != page);
     2 * copies + 3 * n as u16 + 1
 }
 
 // The steps of a write, the way of which was chosen by one look at the image.
-fn follow(steps: &mut Steps, way: Way, store: &Store, table: Table, change: &Change) -> u16
-    requires opened { Holding (as_form steps.old.form) steps.old.image.now store.now table }
+fn follow(steps: &mut Steps, way: Way, store: &Store, table: &Table, change: &Change) -> u16
+    requires opened { Holding (as_form steps.old.form) steps.old.image.now store.now table.now }
     requires chosen { (o : Holder) × Chosen (as_form steps.old.form) o (as_change change.now) steps.old.image.now (Ok way) }
     ensures { Does steps.old (write_steps steps.old.form.edition (as_change change.now) (pages (as_form steps.old.form) steps.old.image.now))
         steps.new result }
@@ -190,10 +190,11 @@ fn write_change(
 {
     let mut table = Table::new();
     let store = store::open(image, form, &mut table)?;
-    let way = choosing::choose(&store, form, owner, &table, change)?;
+    let opened = Ok(&store);
+    let way = choosing::choose(opened, form.slots, form.edition, owner, &table, change)?;
     let left = allowance;
     let mut steps = Steps { image, form, left };
-    let total = follow(&mut steps, way, &store, table, change);
+    let total = follow(&mut steps, way, &store, &table, change);
     Ok(Outcome::of(total, allowance))
 }
 

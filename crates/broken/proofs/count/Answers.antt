@@ -6,9 +6,15 @@ use lib.ListN.{length}
 use Rattle.std.proofs.Common.{rules}
 use Rattle.rules.specs.Store.{each, count}
 use Rattle.pages.specs.Read.{as_form}
+use Rattle.survey.specs.Look.{line_of}
+use Rattle.survey.proofs.Looking.{told_few}
 use Rattle.broken.specs.Counts.{Counts}
 use Rattle.broken.proofs.Counting.{first_conditions, line_counts, page_inside, page_few, page_more}
 use Rattle.broken.proofs.count.Goals as goal
+
+-- so that no number of pages is out of the line's places
+pub shared_ref_as_front-page-items : goal.shared_ref_as_front-page-items
+shared_ref_as_front-page-items c = omega (arith, told_few c.requires.0 c.requires.1)
 
 pub loop-page-init : goal.loop-page-init
 unfolding count each
@@ -37,7 +43,7 @@ loop-page-preserved c =
 pub returns-clause-counts : goal.returns-clause-counts
 returns-clause-counts c =
     let l = c.loop-page in
-    let line = c.args.look.now.line.items in
+    let line = line_of c.args.look.now in
     let fm = as_form c.args.form in
     let image = c.args.image.now in
     let done : l.page-index ≡ length line = grind arith in

@@ -1,6 +1,6 @@
 -- The look, the settings of the used pages, and whether a group is open.
-use Prim.Native.Nat.{◌<◌}
-use mathlib.Core.Path.{◌≡◌, sym, ap, ◌∙◌}
+use Prim.Native.Nat.{ℕ, ◌<◌}
+use mathlib.Core.Path.{◌≡◌, sym, ap, ◌∙◌, subst}
 use mathlib.Core.Bool.{Bool, ◌&&◌}
 use native.Mathlib.Omega.{arith}
 use lib.ListN.{length}
@@ -11,10 +11,14 @@ use Rattle.rules.specs.Store.{settings, held}
 use Rattle.rules.specs.Call.{pages}
 use Rattle.pages.specs.Read.{as_form}
 use Rattle.survey.proofs.Refusals.{is_refusal}
+use Rattle.survey.proofs.Looking.{told_few, told_line}
+use Rattle.survey.specs.Look.{line_of}
+use Rattle.store.specs.Gather.{Ends}
+use Rattle.store.specs.Opened.{Holding}
 use Rattle.store.proofs.Gathering.{passes, gathered_settings, group_told}
 use Rattle.store.proofs.Opening.{refused_by_pages, refused_by_held, accepted_by_held}
 use Rattle.store.proofs.open.Goals as goal
-use Rattle.store.proofs.open.Goals.{then-look-form, else-look-form}
+use Rattle.store.proofs.open.Goals.{After-len-held}
 
 pub returns-in_err-look : goal.returns-in_err-look
 returns-in_err-look c =
@@ -24,30 +28,39 @@ returns-in_err-look c =
 pub gather-requires-clause-passes : goal.gather-requires-clause-passes
 gather-requires-clause-passes c = let told = c.in_ok-look.ensures in passes told.0 told.1
 
-pub returns-after-look-form : goal.returns-after-look-form
-unfolding held
-returns-after-look-form c =
-    let fm = as_form c.args.form in
-    let i = c.args.image.now in
-    let look = c.in_ok-look.look in
-    let told = c.in_ok-look.ensures in
-    let opened = c.in-Ok.open_group in
-    let holds : c.gather.new.table ≡ settings (pages fm i) = c.in-Ok.ensures.value ∙ gathered_settings told.0 told.1 in
-    let few = c.len-held.ensures.few in
-    let grouped : c.if-look-form.group ≡ (ltb look.free fm.slot_count && opened) =
-    elim c.if-look-form.branch [
-      | then-look-form w ↦ w.group-is ∙ ap (λ (b : Bool). b && opened) (sym (lt-ltb look.free fm.slot_count (omega arith)))
-      | else-look-form w ↦
-          let full = le-ltb look.free fm.slot_count (omega arith) in
-          w.group-is ∙ full ∙ ap (λ (b : Bool). b && opened) (sym full)
-    ] in
-    record {
-      accepted = accepted_by_held fm i told.0 (omega (arith, ap length holds, c.len-held.ensures.value, few));
-      told = told.1;
-      holds = holds;
-      few = omega (arith, c.len-held.ensures.value, few);
-      grouped = grouped ∙ group_told told.0 told.1 opened c.in-Ok.ensures.ends;
-    }
+pub gather-requires-clause-long : goal.gather-requires-clause-long
+gather-requires-clause-long c = let told = c.in_ok-look.ensures in ((told_few told.0 told.1).1, told.1.long.0)
+
+-- whatever is told of the group, if it is so
+module _ (c : After-len-held) where
+  opened : (group : Bool) → group ≡ (ltb c.in_ok-look.look.free c.args.form.slots && c.in-Ok.open_group)
+      → Holding (as_form c.args.form) c.args.image.now (record { group = group; look = c.in_ok-look.look }) c.gather.new.table
+  unfolding held
+  opened group is =
+      let fm = as_form c.args.form in
+      let i = c.args.image.now in
+      let told = c.in_ok-look.ensures in
+      let few = c.len-held.ensures.few in
+      let holds : c.gather.new.table ≡ settings (pages fm i) = c.in-Ok.ensures.value ∙ gathered_settings told.0 told.1 in
+      record {
+        accepted = accepted_by_held fm i told.0 (omega (arith, ap length holds, c.len-held.ensures.value, few));
+        told = told.1;
+        holds = holds;
+        few = omega (arith, c.len-held.ensures.value, few);
+        grouped = is ∙ group_told told.0 told.1 c.in-Ok.open_group (subst (λ (n : ℕ). Ends fm i (line_of c.in_ok-look.look) n c.in-Ok.open_group) (sym (told_line told.0 told.1)) c.in-Ok.ensures.ends);
+      }
+
+pub returns-then-look-form : goal.returns-then-look-form
+returns-then-look-form c =
+    let free = c.in_ok-look.look.free in
+    opened (goal.at.returns-then-look-form c).After-len-held _ (ap (λ (b : Bool). b && c.in-Ok.open_group) (sym (lt-ltb free c.args.form.slots (omega arith))))
+
+pub returns-else-look-form : goal.returns-else-look-form
+returns-else-look-form c =
+    let free = c.in_ok-look.look.free in
+    let full = le-ltb free c.args.form.slots (omega arith) in
+    opened (goal.at.returns-else-look-form c).After-len-held (ltb free c.args.form.slots)
+    (full ∙ ap (λ (b : Bool). b && c.in-Ok.open_group) (sym full))
 
 pub returns-in-Err : goal.returns-in-Err
 unfolding held

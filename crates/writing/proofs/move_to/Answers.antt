@@ -22,7 +22,7 @@ unfolding other
 returns c =
     let a = c.args in
     let f = as_form a.steps.now.form in
-    let cs = copied a.table (triples a.entries.now) in
+    let cs = copied a.table.now (triples a.entries.now) in
     let p = c.requires.place in
     let renewed = c.renew_picked.ensures (other a.page) (λ k b l h. search rules) in
     record {

@@ -1,4 +1,5 @@
 -- The pages that the look told as unclean are the rules', so many.
+use mathlib.Core.Path.{refl}
 use native.Mathlib.Omega.{arith}
 use borrow.Author.Rules.{rules}
 use Rattle.rules.specs.Call.{recover}
@@ -41,5 +42,5 @@ returns c =
     let h = c.in_ok-store.ensures in
     let look = c.in_ok-store.store.look in
     let renewed = c.renew_picked.ensures (unclean_at look) (λ k b l w. search rules) in
-    let all = recovered _ h (rw c.len.ensures.value) c.abandon-abandoned.ensures renewed in
+    let all = recovered _ h refl c.abandon-abandoned.ensures renewed in
     answered _ h.accepted all c.of.ensures (search rules)

@@ -1,4 +1,6 @@
+use mathlib.Core.Path.{sym, subst}
 use Rattle.std.proofs.Common.{rules}
+use Rattle.groups.specs.Stands.{Stands}
 use Rattle.groups.proofs.Standing.{record_behind, opens_behind, closes_behind, neither_behind, lost_behind, neither_told}
 use Rattle.groups.proofs.Place.behind.Goals as goal
 
@@ -18,7 +20,8 @@ pub returns-in-Outside-default : goal.returns-in-Outside-default
 returns-in-Outside-default c =
     λ at xs w h e.
     let n = neither_told w c.args.s (search rules) in
-    rw n.1 (neither_behind at xs c.args.self h w c.in-Outside-default.is-0 n.0)
+    let stays = neither_behind at xs c.args.self h w c.in-Outside-default.is-0 n.0 in
+    rw n.1 (subst (Stands _ _) (sym c.in-Outside-default.is-0) stays)
 
 pub returns-in_default : goal.returns-in_default
 returns-in_default c =

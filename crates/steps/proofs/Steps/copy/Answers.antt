@@ -1,5 +1,5 @@
 use Prim.Native.Nat.{ℕ, ◌+◌, ◌≤◌, ◌<◌}
-use mathlib.Core.Path.{◌≡◌, sym, ap, ◌∙◌, subst}
+use mathlib.Core.Path.{◌≡◌, refl, sym, ap, ◌∙◌, subst}
 use mathlib.Core.Bool.{false}
 use mathlib.Core.List.{List, [], ◌∷◌, ◌++◌, map, append-nil}
 use native.Mathlib.Omega.{arith}
@@ -10,21 +10,21 @@ use Rattle.rules.specs.Store.{Setting, address_of}
 use Rattle.rules.specs.Steps.{record_of, move_records, slots_steps}
 use Rattle.rules.specs.Call.{among, triples}
 use Rattle.settings.specs.declared.Setting.{Setting as Numbers}
-use Rattle.settings.specs.Held.{as_setting}
+use Rattle.settings.specs.Held.{as_setting, taken}
 use Rattle.steps.specs.Done.{May}
 use Rattle.steps.proofs.Doing.{done_nothing}
 use Rattle.steps.proofs.Slots.{slots_ready, slots_more, word_ready, word_more}
 use Rattle.steps.proofs.Copies.{kept, is_kept, is_left_out, copied_from, copied_all, kept_none, setting_here}
 use Rattle.steps.proofs.Steps.copy.Goals as goal
-use Rattle.steps.proofs.Steps.copy.Goals.{After-as_slice-setting-items, then-not-names_from, else-not-names_from}
+use Rattle.steps.proofs.Steps.copy.Goals.{Start, then-not-names_from, else-not-names_from}
 
 -- what is copied, of the arguments
-module _ (s : After-as_slice-setting-items) where
+module _ (s : Start) where
   abbrev table : List Setting
-  table = s.args.table
+  table = taken s.args.settings s.args.held
 
   abbrev items : List Numbers
-  items = s.as_slice-setting-items.result.now
+  items = take s.args.held s.args.settings
 
   abbrev rs : List Setting
   rs = triples s.args.entries.now
@@ -47,10 +47,10 @@ module _ (s : After-as_slice-setting-items) where
   word j = record_word (at j).address (at j).value
 
   here : (j : ℕ) → j < length items → take (j + 1) table ≡ take j table ++ (as_setting (at j) ∷ [])
-  here j l = setting_here items s.as_slice-setting-items.ensures.value j (record { address = 0; value = 0 }) l
+  here j l = setting_here items refl j (record { address = 0; value = 0 }) l
 
   long : length table ≡ length items
-  long = sym (ap length s.as_slice-setting-items.ensures.value) ∙ length-map items as_setting
+  long = length-map items as_setting
 
   allowed : (vs : List Word) → all ≡ vs → May s.args.self.now (slots_steps s.args.page 0 vs)
   allowed vs e = subst (λ (us : List Word). May s.args.self.now (slots_steps s.args.page 0 us)) e s.requires.allowed
@@ -76,7 +76,7 @@ module _ (s : After-as_slice-setting-items) where
 pub loop-setting-init : goal.loop-setting-init
 unfolding slots_steps
 loop-setting-init c =
-    let s = (goal.at.loop-setting-init c).After-as_slice-setting-items in
+    let s = (goal.at.loop-setting-init c).Start in
     let none = kept_none (table s) (rs s) in
     record {
       behind = rw none;
@@ -87,7 +87,7 @@ loop-setting-init c =
 pub program_word-requires-clause-allowed : goal.program_word-requires-clause-allowed
 program_word-requires-clause-allowed c =
     let l = c.loop-setting in
-    let s = (goal.at.program_word-requires-clause-allowed c).After-as_slice-setting-items in
+    let s = (goal.at.program_word-requires-clause-allowed c).Start in
     let from = from_row s l.setting-index c.loop-setting-test.true (sym c.names_from.ensures ∙ c.if-not-names_from.true) in
     rw c.record_word-w.ensures
     (word_ready s.args.page 0 (ws s l.setting-index) l.invariant.copied (word s l.setting-index) (3 + l.slot)
@@ -97,7 +97,7 @@ program_word-requires-clause-allowed c =
 pub loop-setting-preserved : goal.loop-setting-preserved
 loop-setting-preserved c =
     let l = c.loop-setting in
-    let s = (goal.at.loop-setting-preserved c).After-as_slice-setting-items in
+    let s = (goal.at.loop-setting-preserved c).Start in
     let a = s.args in
     let j = l.setting-index in
     elim c.if-not-names_from.branch [
@@ -119,7 +119,7 @@ loop-setting-preserved c =
 pub program_records-requires-clause-room : goal.program_records-requires-clause-room
 program_records-requires-clause-room c =
     let l = c.loop-setting in
-    let s = (goal.at.program_records-requires-clause-room c).After-as_slice-setting-items in
+    let s = (goal.at.program_records-requires-clause-room c).Start in
     let records = map record_of (rs s) in
     let most = few s (ws s l.setting-index ++ records) (split s l.setting-index (omega arith)) in (
       c.requires.room.0,
@@ -130,7 +130,7 @@ program_records-requires-clause-room c =
 pub program_records-requires-clause-allowed : goal.program_records-requires-clause-allowed
 program_records-requires-clause-allowed c =
     let l = c.loop-setting in
-    let s = (goal.at.program_records-requires-clause-allowed c).After-as_slice-setting-items in
+    let s = (goal.at.program_records-requires-clause-allowed c).Start in
     let records = map record_of (rs s) in
     let at : l.slot ≡ 0 + length (ws s l.setting-index) = omega (arith, l.invariant.behind) in
     rw at
@@ -141,7 +141,7 @@ program_records-requires-clause-allowed c =
 pub returns : goal.returns
 returns c =
     let l = c.loop-setting in
-    let s = (goal.at.returns c).After-as_slice-setting-items in
+    let s = (goal.at.returns c).Start in
     let at : l.slot ≡ 0 + length (ws s l.setting-index) = omega (arith, l.invariant.behind) in
     rw (split s l.setting-index (omega arith))
     (slots_more s.args.page 0 (ws s l.setting-index) l.invariant.copied (map record_of (rs s)) (rw at at c.program_records.ensures))
