@@ -5,6 +5,7 @@ use mathlib.Core.List.{List, []}
 use native.Mathlib.Omega.{arith}
 use lib.ListN.{length, get_or, take}
 use Rattle.std.proofs.lemmas.Result.{err_from_is_err_and}
+use Rattle.rules.specs.Word.{Word}
 use Rattle.rules.specs.Page.{Form}
 use Rattle.rules.specs.Store.{Setting, each, records, put_all, in_group}
 use Rattle.pages.specs.Read.{as_form}
@@ -68,5 +69,6 @@ loop-k-preserved c =
       puts = puts_all _ _ _ _ c.in_ok-passed.was b.put_page-passed.ensures.value ∙ put_in b;
       ends = λ j e.
           let same : k b ≡ j = omega arith in
-          subst (λ (x : ℕ). b.put_page-passed.result.group ≡ in_group (standing (form b).edition (slots_in (form b) (get_or (line b) x 0) (image b)))) same ends;
+          let slots : ℕ → List Word = λ x. slots_in (form b) (get_or (line b) x 0) (image b) in
+          subst (λ (x : ℕ). b.put_page-passed.result.group ≡ in_group (standing (form b).edition (slots x))) same ends;
     }

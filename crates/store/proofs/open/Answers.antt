@@ -41,13 +41,14 @@ module _ (c : After-len-held) where
       let i = c.args.image.now in
       let told = c.in_ok-look.ensures in
       let few = c.len-held.ensures.few in
+      let ends = subst (λ (n : ℕ). Ends fm i (line_of c.in_ok-look.look) n c.in-Ok.open_group) (sym (told_line told.0 told.1)) c.in-Ok.ensures.ends in
       let holds : c.gather.new.table ≡ settings (pages fm i) = c.in-Ok.ensures.value ∙ gathered_settings told.0 told.1 in
       record {
         accepted = accepted_by_held fm i told.0 (omega (arith, ap length holds, c.len-held.ensures.value, few));
         told = told.1;
         holds = holds;
         few = omega (arith, c.len-held.ensures.value, few);
-        grouped = is ∙ group_told told.0 told.1 c.in-Ok.open_group (subst (λ (n : ℕ). Ends fm i (line_of c.in_ok-look.look) n c.in-Ok.open_group) (sym (told_line told.0 told.1)) c.in-Ok.ensures.ends);
+        grouped = is ∙ group_told told.0 told.1 c.in-Ok.open_group ends;
       }
 
 pub returns-then-look-form : goal.returns-then-look-form

@@ -56,9 +56,9 @@ copy-requires-clause-allowed c =
 pub program_word-requires-2-clause-allowed : goal.program_word-requires-2-clause-allowed
 unfolding fill_steps
 program_word-requires-2-clause-allowed c =
-    let s = (goal.at.program_word-requires-2-clause-allowed c).Start in
-    let filled = done_then (opened (goal.at.program_word-requires-2-clause-allowed c).After-program_word) (copied_held (goal.at.program_word-requires-2-clause-allowed c).After-copy) in
-    rw c.done_word.ensures (may_next filled (ending s) s.requires.allowed)
+    let at = goal.at.program_word-requires-2-clause-allowed c in
+    let filled = done_then (opened at.After-program_word) (copied_held at.After-copy) in
+    rw c.done_word.ensures (may_next filled (ending at.Start) at.Start.requires.allowed)
 
 pub returns : goal.returns
 unfolding fill_steps
