@@ -2,7 +2,7 @@
 
 #![tactic(auto)]
 
-ghost use Rattle.std.specs.Prelude.{◌≡◌, false, ◌||◌, List, ℕ, ◌+◌, ◌≤◌, ◌<◌, length, IsSome, MatchResult, Ok, Err};
+ghost use Rattle.std.specs.Prelude.{◌≡◌, false, ◌||◌, List, [], ℕ, ◌+◌, ◌≤◌, ◌<◌, length, IsSome, MatchResult, Ok, Err};
 ghost use Rattle.rules.specs.Page.{Page};
 ghost use Rattle.rules.specs.Store.{Setting, better, settings, count};
 ghost use Rattle.rules.specs.Owner.{is_own};
@@ -243,21 +243,20 @@ fn choose_way(
 
 // The same of an image that may be refused, of pages of any number of slots and any edition: what refuses the image refuses the write.
 pub fn choose(
-    opened: Result<&Store, Refusal>,
+    opened: Result<(&Store, &Table), Refusal>,
     slots: usize,
     edition: u8,
     owner: Owner,
-    table: &Table,
     change: &Change,
 ) -> Result<Way, Refusal>
-    requires { MatchResult opened (λ store. Opened (numbered slots edition) (Ok store.now) table.now)
-        (λ refusal. Opened (numbered slots edition) (Err refusal) table.now) }
-    ensures { (i : List ℕ) → MatchResult opened.entry (λ store. Opens (numbered slots edition) i (Ok store.now) table.now)
-        (λ refusal. Opens (numbered slots edition) i (Err refusal) table.now)
+    requires { MatchResult opened (λ both. Opened (numbered slots edition) (Ok both.0.now) both.1.now)
+        (λ refusal. Opened (numbered slots edition) (Err refusal) []) }
+    ensures { (i : List ℕ) → MatchResult opened.entry (λ both. Opens (numbered slots edition) i (Ok both.0.now) both.1.now)
+        (λ refusal. Opens (numbered slots edition) i (Err refusal) [])
         → Chosen (numbered slots edition) (as_owner owner) (as_change change.now) i result }
 {
     match opened {
-        Ok(store) => choose_way(store, slots, edition, owner, table, change),
+        Ok((store, table)) => choose_way(store, slots, edition, owner, table, change),
         Err(refusal) => Err(refusal),
     }
 }

@@ -3,6 +3,7 @@ use Prim.Native.Nat.{ℕ}
 use mathlib.Core.Path.{◌≡◌, refl}
 use mathlib.Core.Bool.{Bool, true, false, ◌&&◌}
 use mathlib.Core.List.{List, [], ◌∷◌, map}
+use mathlib.Core.Option.{Option as Optional}
 use native.Mathlib.Omega.{arith}
 use lib.ListN.{length, get_or}
 use Rattle.std.specs.Prelude.{Option, None, Some}
@@ -21,12 +22,16 @@ unfolding blank_value or_value
 valued None = refl
 valued (Some v) = refl
 
-all_four : (a b c d : Bool) → (a && b && c && d) ≡ (a && (b && (c && (d && true))))
-all_four true true true true = refl
-all_four true true true false = refl
-all_four true true false d = refl
-all_four true false c d = refl
-all_four false b c d = refl
+all_four : (a b c d : Optional ℕ) → all_held (a ∷ b ∷ c ∷ d ∷ []) ≡ (((is_held a && is_held b) && is_held c) && is_held d)
+unfolding all_held
+all_four a b c d = four (is_held a) (is_held b) (is_held c) (is_held d)
+  where
+    four : (p q r s : Bool) → (p && (q && (r && (s && true)))) ≡ (((p && q) && r) && s)
+    four true true true true = refl
+    four true true true false = refl
+    four true true false s = refl
+    four true false r s = refl
+    four false q r s = refl
 
 abbrev digit : List (Option ℕ) → ℕ → Option ℕ
 digit os k = get_or os k None
@@ -38,12 +43,11 @@ pub paired_is : (os : List (Option ℕ)) → length os ≡ 4 →
       paired = is_some (digit os 0) && is_some (digit os 1) && is_some (digit os 2) && is_some (digit os 3);
       digits = unwrap_or (digit os 0) 0 ∷ unwrap_or (digit os 1) 0 ∷ unwrap_or (digit os 2) 0 ∷ unwrap_or (digit os 3) 0 ∷ [];
     } ≡ pairing (map as_option os)
-unfolding pairing all_held
+unfolding pairing
 paired_is [] h = absurd (omega arith)
 paired_is (a ∷ []) h = absurd (omega arith)
 paired_is (a ∷ b ∷ []) h = absurd (omega arith)
 paired_is (a ∷ b ∷ c ∷ []) h = absurd (omega arith)
 paired_is (a ∷ b ∷ c ∷ d ∷ []) h =
-    let four = all_four (is_held (as_option a)) (is_held (as_option b)) (is_held (as_option c)) (is_held (as_option d)) in
-    rw (told a, told b, told c, told d, valued a, valued b, valued c, valued d, four) refl
+    rw (told a, told b, told c, told d, valued a, valued b, valued c, valued d, all_four (as_option a) (as_option b) (as_option c) (as_option d)) refl
 paired_is (a ∷ b ∷ c ∷ d ∷ e ∷ os) h = absurd (omega arith)

@@ -21,7 +21,7 @@ pub renew_length : (edition p wear : ℕ) → length (renew edition p wear) ≡ 
 unfolding renew
 renew_length edition p wear = omega (arith, word_length p wear_place (wear_word edition wear))
 
-renew_all_long : (edition k n : ℕ) → length (renew_all edition k n) ≡ 3 * n
+pub renew_all_long : (edition k n : ℕ) → length (renew_all edition k n) ≡ 3 * n
 unfolding renew_all
 renew_all_long edition k zero = refl
 renew_all_long edition k (suc n) =

@@ -1,4 +1,4 @@
 -- Laws of the code's own, for its proofs and for the crates below.
 pub mod Tables
-mod Carried
+mod Inserted
 pub mod Slots

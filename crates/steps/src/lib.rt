@@ -159,3 +159,13 @@ impl Steps<'_> {
         self.program_records(page, slot, entries);
     }
 }
+
+// Renews the first n pages with wear 1, in index order, and leaves no step of it undone: a page takes three.
+pub fn renew_all(image: &mut [u8], form: Form, n: usize)
+    requires { (n ≤ 32) × (n * size (as_form form) ≤ length image.old) }
+    ensures { image.new ≡ run (size (as_form form)) (renew_all form.edition 0 n) image.old }
+{
+    let left = 3 * n as u16;
+    let mut steps = Steps { image, form, left };
+    steps.renew_all(n);
+}

@@ -5,7 +5,7 @@ use Rattle.rules.specs.Store.{Setting, settings, open_group}
 use Rattle.rules.specs.Call.{pages, store_number}
 use Rattle.survey.specs.declared.refusal.Refusal.{Refusal}
 use Rattle.survey.specs.Refusals.{number_of}
-use Rattle.survey.specs.Look.{Told}
+use Rattle.survey.specs.Look.{Told, Rest}
 use Rattle.store.specs.declared.Store.{Store}
 
 -- what is known of an image that is not refused: the pages, the settings, which the table has, and whether a group is open
@@ -20,6 +20,11 @@ pub record Holding (fm : Form) (i : List ℕ) (r : Store) (t : List Setting) : T
 abbrev pub Opens : (fm : Form) (i : List ℕ) → Result Store Refusal → List Setting → Type 0
 Opens fm i (Ok r) t = Holding fm i r t
 Opens fm i (Err e) t = store_number fm i ≡ number_of e
+
+-- what stands in the places of its look that are not taken
+abbrev pub Rests : Result Store Refusal → Type 0
+Rests (Ok r) = Rest r.look
+Rests (Err e) = Unit {0}
 
 -- a store and a table that were opened from some image, or what refused it
 pub record Opened (fm : Form) (r : Result Store Refusal) (t : List Setting) : Type 0 where

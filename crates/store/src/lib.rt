@@ -10,7 +10,7 @@ ghost use Rattle.survey.specs.States.{slots_in};
 ghost use Rattle.survey.specs.Look.{line_of};
 ghost use Rattle.settings.specs.Held.{PutsIn};
 ghost use Rattle.store.specs.Gather.{gathered, Passes, standing, Ends};
-ghost use Rattle.store.specs.Opened.{Opens};
+ghost use Rattle.store.specs.Opened.{Opens, Rests};
 
 use pages::Form;
 use settings::{Passed, Table, TooMany};
@@ -59,7 +59,8 @@ pub struct Store {
 // The one look at an image that serves a call. The table that is lent, which is empty, has the settings then, if there is no refusal.
 pub fn open(image: &[u8], form: Form, table: &mut Table) -> Result<Store, Refusal>
     requires { table.old ≡ [] }
-    ensures { Opens (as_form form) image.now result table.new }
+    ensures opens { Opens (as_form form) image.now result table.new }
+    ensures rest { Rests result }
 {
     let look = survey::look_at(image, form)?;
     match gather(image, form, &look, table) {

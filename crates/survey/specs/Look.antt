@@ -52,9 +52,12 @@ pub record Told (fm : Form) (i : List ℕ) (r : Look) : Type 0 where
   pub long : (length r.line ≡ 32) × (length r.roles ≡ 32)
   pub line : Lines fm i (line_of r)
   pub roles : roles_of r ≡ map (role (base (states (pages fm i)))) (states (pages fm i))
-  pub rest : (drop r.used r.line ≡ replicate (32 - r.used) 0) × (drop r.count r.roles ≡ replicate (32 - r.count) Unclean)
+
+-- what stands in the places that are not taken: a look has it so, and nobody asks it
+abbrev pub Rest : Look → Type 0
+Rest r = (drop r.used r.line ≡ replicate (32 - r.used) 0) × (drop r.count r.roles ≡ replicate (32 - r.count) Unclean)
 
 -- what is told of the pages, or the number by which they are refused
 abbrev pub Looks : (fm : Form) (i : List ℕ) → Result Look Refusal → Type 0
-Looks fm i (Ok look) = (pages_number fm i ≡ 0) × Told fm i look
+Looks fm i (Ok look) = (pages_number fm i ≡ 0) × Told fm i look × Rest look
 Looks fm i (Err e) = pages_number fm i ≡ number_of e

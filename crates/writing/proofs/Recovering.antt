@@ -4,7 +4,7 @@ use mathlib.Core.Path.{◌≡◌, refl, sym, ap, ◌∙◌, subst}
 use mathlib.Core.Bool.{Bool, true, false}
 use mathlib.Core.List.{List, [], ◌∷◌, append-nil}
 use native.Mathlib.Omega.{arith}
-use lib.ListN.{length, get_or, take, length-append, length-map}
+use lib.ListN.{length, get_or, take, length-append}
 use Rattle.std.proofs.lemmas.List.{get_or-map, get_or-take}
 use Rattle.rules.specs.Flash.{Step}
 use Rattle.rules.specs.Word.{Word, mark_word, word_steps}
@@ -32,7 +32,7 @@ use Rattle.steps.proofs.Doing.{done_nothing, done_then, may_first}
 use Rattle.store.specs.declared.Store.{Store}
 use Rattle.store.specs.Opened.{Holding}
 use Rattle.choosing.proofs.Ways.{open_slot}
-use Rattle.writing.specs.Plans.{Does}
+use Rattle.writing.specs.Plans.{Counted}
 use Rattle.writing.proofs.Outcomes.{may_all}
 use Rattle.writing.proofs.Kept.{OnPage, on_take, on_word, renewing_kept}
 
@@ -210,20 +210,20 @@ module _ (s : Steps) {r : Store} {held : List Setting} (h : Holding (as_form s.f
       let whole = may_all s plan (recovery_allowed (accepted_healthy fm s.form.fits.0 ⊥ i h.accepted (λ z. absurd z))) in
       rw made (subst (May s) (abandons h g) (may_first s abandoning _ whole))
 
-  pub abandoned : {t : Steps} {w : Word} → r.group ≡ true → w ≡ mark_word 0 → Done s (word_steps r.look.active (3 + r.look.free) w) t → Does s abandoning t 2
+  pub abandoned : {t : Steps} {w : Word} → r.group ≡ true → w ≡ mark_word 0 → Done s (word_steps r.look.active (3 + r.look.free) w) t → Counted s abandoning t 2
   abandoned {t} {w} g made d =
       record {
         done = rw (abandons h g) (rw made at d);
         many = sym (ap length (abandons h g) ∙ word_length r.look.active (3 + r.look.free) (mark_word 0));
       }
 
-  pub not_abandoned : r.group ≡ false → Does s abandoning s 0
+  pub not_abandoned : r.group ≡ false → Counted s abandoning s 0
   not_abandoned g = rw (abandons_none h g) (record { done = done_nothing s; many = refl })
 
   -- and then the pages are renewed
-  pub recovered : {t u : Steps} {a n : ℕ} → n ≡ r.look.count - r.look.used - r.look.cleared → Does s abandoning t a
+  pub recovered : {t u : Steps} {a n : ℕ} → n ≡ r.look.count - r.look.used - r.look.cleared → Counted s abandoning t a
       → Done t (picked_steps (as_form t.form) r.look.count (unclean_at r.look) t.image.now) u
-      → Does s plan u (a + 3 * n)
+      → Counted s plan u (a + 3 * n)
   unfolding recovery_steps picked_steps
   recovered {t} {u} {a} {n} many marked renewed =
       let picked : Form → List ℕ → List Step = λ f j. picked_steps f r.look.count (unclean_at r.look) j in

@@ -38,7 +38,7 @@ use Rattle.choosing.specs.declared.Way.TheVariants.{Stay, Append, Open, Move}
 use Rattle.choosing.specs.Way.{as_way, Fitting, Chosen}
 use Rattle.choosing.proofs.Ways.{change_settings}
 use Rattle.writing.specs.Answers.{as_stepped}
-use Rattle.writing.specs.Plans.{Does, Right, Tabled}
+use Rattle.writing.specs.Plans.{Counted, Right, Tabled}
 use Rattle.writing.proofs.Outcomes.{may_all}
 use Rattle.writing.proofs.Recovering.{look_few, look_sized}
 
@@ -118,7 +118,7 @@ module _ (s : Steps) (c : Bytes) (by : Owner) {r : Store} {t : List Setting} {w 
   pub right : Right fm.edition c
   right = passed.grouped
 
-  pub stayed : w ≡ Stay → Does s plan s 0
+  pub stayed : w ≡ Stay → Counted s plan s 0
   unfolding Means way_steps
   stayed e =
       let g : Goes fm ch i stay = means e in
@@ -136,8 +136,8 @@ module _ (s : Steps) (c : Bytes) (by : Owner) {r : Store} {t : List Setting} {w 
     pub append_allowed : May s (append_steps p k ch)
     append_allowed = subst (May s) appending whole
 
-    pub appended : {u : Steps} {total : ℕ} → Does s (append_steps p k ch) u total → Does s plan u total
-    appended {u} {total} d = subst (λ (ss : List Step). Does s ss u total) (sym appending) d
+    pub appended : {u : Steps} {total : ℕ} → Counted s (append_steps p k ch) u total → Counted s plan u total
+    appended {u} {total} d = subst (λ (ss : List Step). Counted s ss u total) (sym appending) d
 
   module _ (p o : ℕ) (e : w ≡ Open p o) where
     opening : plan ≡ open_steps p o ch
@@ -151,8 +151,8 @@ module _ (s : Steps) (c : Bytes) (by : Owner) {r : Store} {t : List Setting} {w 
     pub open_allowed : May s (open_steps p o ch)
     open_allowed = subst (May s) opening whole
 
-    pub opened : {u : Steps} {total : ℕ} → Does s (open_steps p o ch) u total → Does s plan u total
-    opened {u} {total} d = subst (λ (ss : List Step). Does s ss u total) (sym opening) d
+    pub opened : {u : Steps} {total : ℕ} → Counted s (open_steps p o ch) u total → Counted s plan u total
+    opened {u} {total} d = subst (λ (ss : List Step). Counted s ss u total) (sym opening) d
 
   module _ (p o : ℕ) (e : w ≡ Move p o) where
     moving : Goes fm ch i (move_to p o)
@@ -189,8 +189,8 @@ module _ (s : Steps) (c : Bytes) (by : Owner) {r : Store} {t : List Setting} {w 
     move_allowed = may_first s (fill_steps p o (copied t (triples c.entries.now))) _ (subst (May s) moves whole)
 
     pub moved_all : {u : Steps} {total : ℕ}
-        → Does s (move_steps fm.edition p o (copied t (triples c.entries.now)) (first_pages fm r.look.count i)) u total → Does s plan u total
-    moved_all {u} {total} d = subst (λ (ss : List Step). Does s ss u total) (sym moves) d
+        → Counted s (move_steps fm.edition p o (copied t (triples c.entries.now)) (first_pages fm r.look.count i)) u total → Counted s plan u total
+    moved_all {u} {total} d = subst (λ (ss : List Step). Counted s ss u total) (sym moves) d
 
 -- ---- refused
 

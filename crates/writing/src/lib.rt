@@ -17,7 +17,7 @@ ghost use Rattle.steps.specs.Copied.{copied};
 ghost use Rattle.store.specs.Opened.{Holding};
 ghost use Rattle.choosing.specs.Way.{Chosen};
 ghost use Rattle.writing.specs.Answers.{as_formatted, as_stepped};
-ghost use Rattle.writing.specs.Plans.{Does, Right, Tabled};
+ghost use Rattle.writing.specs.Plans.{Does, Counted, Right, Tabled};
 
 use changes::Change;
 use choosing::Way;
@@ -53,9 +53,9 @@ pub fn format(image: &mut [u8], form: Form) -> Result<(), Refusal>
     ensures { as_formatted result image.new ≡ format (as_form form) image.old }
 {
     let n = survey::page_count(image, form)?;
-    let left = 3 * n as u16 + 2;
+    steps::renew_all(image, form, n);
+    let left = 2;
     let mut steps = Steps { image, form, left };
-    steps.renew_all(n);
     steps.program_word(0, 1, words::opening_word(1, 0));
     Ok(())
 }
@@ -65,7 +65,7 @@ pub fn format(image: &mut [u8], form: Form) -> Result<(), Refusal>
 #[tactic(auto, using(crate::proofs::Recovering::mark_fits, crate::proofs::Recovering::mark_allowed))]
 fn abandon(steps: &mut Steps, store: &Store) -> u16
     requires { (held : List Setting) × Holding (as_form steps.old.form) steps.old.image.now store.now held }
-    ensures { Does steps.old (abandon_steps (pages (as_form steps.old.form) steps.old.image.now)) steps.new result }
+    ensures { Counted steps.old (abandon_steps (pages (as_form steps.old.form) steps.old.image.now)) steps.new result }
 {
     let is_open = store.group;
     if !is_open {
@@ -98,7 +98,7 @@ fn append(steps: &mut Steps, page: usize, slot: usize, change: &Change) -> u16
     requires right { Right steps.old.form.edition change.now }
     requires place { (page < 32) × (slot + length (words_of (as_change change.now)) ≤ steps.old.form.slots) }
     requires allowed { May steps.old (append_steps page slot (as_change change.now)) }
-    ensures { Does steps.old (append_steps page slot (as_change change.now)) steps.new result }
+    ensures { Counted steps.old (append_steps page slot (as_change change.now)) steps.new result }
 {
     if change.marks {
         steps.program_group(page, slot, change.entries);
@@ -113,13 +113,15 @@ fn open_page(steps: &mut Steps, page: usize, order: u32, change: &Change) -> u16
     requires right { Right steps.old.form.edition change.now }
     requires place { (page < 32) × (order < 4194304) }
     requires allowed { May steps.old (open_steps page order (as_change change.now)) }
-    ensures { Does steps.old (open_steps page order (as_change change.now)) steps.new result }
+    ensures { Counted steps.old (open_steps page order (as_change change.now)) steps.new result }
 {
     steps.program_word(page, 1, words::opening_word(1, order));
     2 + append(steps, page, 0, change)
 }
 
 // A cleared page is opened to receive, what is held is copied to it with the new records, and its done word is programmed.
+// In a frame of its own, so that the copy of the settings takes no stack while the image is looked at.
+#[inline(never)]
 fn fill(steps: &mut Steps, page: usize, order: u32, table: &Table, entries: &[u8])
     requires place { (page < 32) × (order < 4194304) × (length (copied table.now (triples entries.now)) ≤ steps.old.form.slots) }
     requires allowed { May steps.old (fill_steps page order (copied table.now (triples entries.now))) }
@@ -152,7 +154,7 @@ fn move_to(
     requires short { length entries.now ≤ 26 }
     requires tabled { Tabled table.now (triples entries.now) }
     requires allowed { May steps.old (fill_steps page order (copied table.now (triples entries.now))) }
-    ensures { Does steps.old (move_steps steps.old.form.edition page order (copied table.now (triples entries.now))
+    ensures { Counted steps.old (move_steps steps.old.form.edition page order (copied table.now (triples entries.now))
         (first_pages (as_form steps.old.form) n steps.old.image.now)) steps.new result }
 {
     let copies = copy_count(table, entries);
@@ -165,7 +167,7 @@ fn move_to(
 fn follow(steps: &mut Steps, way: Way, store: &Store, table: &Table, change: &Change) -> u16
     requires opened { Holding (as_form steps.old.form) steps.old.image.now store.now table.now }
     requires chosen { (o : Holder) × Chosen (as_form steps.old.form) o (as_change change.now) steps.old.image.now (Ok way) }
-    ensures { Does steps.old (write_steps steps.old.form.edition (as_change change.now) (pages (as_form steps.old.form) steps.old.image.now))
+    ensures { Counted steps.old (write_steps steps.old.form.edition (as_change change.now) (pages (as_form steps.old.form) steps.old.image.now))
         steps.new result }
 {
     match way {
@@ -176,6 +178,20 @@ fn follow(steps: &mut Steps, way: Way, store: &Store, table: &Table, change: &Ch
             move_to(steps, page, order, store.look.count, table, change.entries)
         }
     }
+}
+
+// The steps of a way, and what is answered of them.
+fn take(steps: &mut Steps, way: Way, store: &Store, table: &Table, change: &Change) -> Outcome
+    requires opened { Holding (as_form steps.old.form) steps.old.image.now store.now table.now }
+    requires chosen { (o : Holder) × Chosen (as_form steps.old.form) o (as_change change.now) steps.old.image.now (Ok way) }
+    ensures same_image { steps.new.image.ghost_name ≡ steps.old.image.ghost_name }
+    ensures does { Does (as_form steps.old.form) steps.old.left
+        (write_steps steps.old.form.edition (as_change change.now) (pages (as_form steps.old.form) steps.old.image.now)) steps.old.image.now result
+        steps.new.image.now }
+{
+    let allowance = steps.left;
+    let total = follow(steps, way, store, table, change);
+    Outcome::of(total, allowance)
 }
 
 // The steps of a change that the image at the call fixes, by one look at it.
@@ -190,12 +206,11 @@ fn write_change(
 {
     let mut table = Table::new();
     let store = store::open(image, form, &mut table)?;
-    let opened = Ok(&store);
-    let way = choosing::choose(opened, form.slots, form.edition, owner, &table, change)?;
+    let opened = Ok((&store, &table));
+    let way = choosing::choose(opened, form.slots, form.edition, owner, change)?;
     let left = allowance;
     let mut steps = Steps { image, form, left };
-    let total = follow(&mut steps, way, &store, &table, change);
-    Ok(Outcome::of(total, allowance))
+    Ok(take(&mut steps, way, &store, &table, change))
 }
 
 // A single setting is lent as a group is, without marks.

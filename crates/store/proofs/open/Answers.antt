@@ -20,8 +20,8 @@ use Rattle.store.proofs.Opening.{refused_by_pages, refused_by_held, accepted_by_
 use Rattle.store.proofs.open.Goals as goal
 use Rattle.store.proofs.open.Goals.{After-len-held}
 
-pub returns-in_err-look : goal.returns-in_err-look
-returns-in_err-look c =
+pub returns-in_err-look-clause-opens : goal.returns-in_err-look-clause-opens
+returns-in_err-look-clause-opens c =
     let e = err_from_is_err_and c.from_residual.result c.from_residual.ensures.1 in
     rw (e.1, e.2) (refused_by_pages (as_form c.args.form) c.args.image.now _ c.in_err-look.ensures (is_refusal _))
 
@@ -51,21 +51,22 @@ module _ (c : After-len-held) where
         grouped = is ∙ group_told told.0 told.1 c.in-Ok.open_group ends;
       }
 
-pub returns-then-look-form : goal.returns-then-look-form
-returns-then-look-form c =
+pub returns-then-look-form-clause-opens : goal.returns-then-look-form-clause-opens
+returns-then-look-form-clause-opens c =
     let free = c.in_ok-look.look.free in
-    opened (goal.at.returns-then-look-form c).After-len-held _ (ap (λ (b : Bool). b && c.in-Ok.open_group) (sym (lt-ltb free c.args.form.slots (omega arith))))
+    opened (goal.at.returns-then-look-form-clause-opens c).After-len-held _
+    (ap (λ (b : Bool). b && c.in-Ok.open_group) (sym (lt-ltb free c.args.form.slots (omega arith))))
 
-pub returns-else-look-form : goal.returns-else-look-form
-returns-else-look-form c =
+pub returns-else-look-form-clause-opens : goal.returns-else-look-form-clause-opens
+returns-else-look-form-clause-opens c =
     let free = c.in_ok-look.look.free in
     let full = le-ltb free c.args.form.slots (omega arith) in
-    opened (goal.at.returns-else-look-form c).After-len-held (ltb free c.args.form.slots)
+    opened (goal.at.returns-else-look-form-clause-opens c).After-len-held (ltb free c.args.form.slots)
     (full ∙ ap (λ (b : Bool). b && c.in-Ok.open_group) (sym full))
 
-pub returns-in-Err : goal.returns-in-Err
+pub returns-in-Err-clause-opens : goal.returns-in-Err-clause-opens
 unfolding held
-returns-in-Err c =
+returns-in-Err-clause-opens c =
     let told = c.in_ok-look.ensures in
     let many : 192 < _ = c.in-Err.ensures.value in
     refused_by_held (as_form c.args.form) c.args.image.now told.0 (omega (arith, ap length (gathered_settings told.0 told.1), many))

@@ -8,7 +8,7 @@ pub returns-in_err-n : goal.returns-in_err-n
 returns-in_err-n c = search (rules, not_formatted)
 
 pub program_word-requires-clause-allowed : goal.program_word-requires-clause-allowed
-program_word-requires-clause-allowed c = opening_ready c.renew_all.ensures c.in_ok-n.ensures c.opening_word.ensures
+program_word-requires-clause-allowed c = opening_ready c.args.form c.renew_all.ensures c.in_ok-n.ensures c.opening_word.ensures 2
 
 pub returns : goal.returns
-returns c = formatted c.renew_all.ensures c.in_ok-n.ensures c.opening_word.ensures refl c.program_word.ensures (search rules)
+returns c = formatted c.args.form c.renew_all.ensures c.in_ok-n.ensures refl refl refl c.opening_word.ensures c.program_word.ensures (search rules)

@@ -8,10 +8,10 @@ pub returns-in_err-store : goal.returns-in_err-store
 returns-in_err-store c = search (rules, not_opened)
 
 pub returns-in_err-way : goal.returns-in_err-way
-returns-in_err-way c = let n = c.in_err-way.ensures c.args.image.now c.in_ok-store.ensures in search (rules, not_written)
+returns-in_err-way c = let n = c.in_err-way.ensures c.args.image.now c.in_ok-store.ensures.opens in search (rules, not_written)
 
 pub returns : goal.returns
 unfolding write
 returns c =
-    let chosen = c.in_ok-way.ensures c.args.image.now c.in_ok-store.ensures in
-    answered _ chosen.0 c.follow-total.ensures c.of.ensures (search rules)
+    let chosen = c.in_ok-way.ensures c.args.image.now c.in_ok-store.ensures.opens in
+    answered _ chosen.0 c.take.ensures.does (search rules)
