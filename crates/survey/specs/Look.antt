@@ -53,7 +53,7 @@ pub record Told (fm : Form) (i : List ℕ) (r : Look) : Type 0 where
   pub line : Lines fm i (line_of r)
   pub roles : roles_of r ≡ map (role (base (states (pages fm i)))) (states (pages fm i))
 
--- what stands in the places that are not taken: a look has it so, and nobody asks it
+-- what stands in the places that are not taken, of a look that was made here: promised, and asked of nobody
 abbrev pub Rest : Look → Type 0
 Rest r = (drop r.used r.line ≡ replicate (32 - r.used) 0) × (drop r.count r.roles ≡ replicate (32 - r.count) Unclean)
 
