@@ -168,31 +168,48 @@ module _ {fm : Form} {i : List ℕ} {n u : ℕ} {rs : List Role} (s : Seen fm i 
     line_up : Lists (base all) 4194305 u (pages fm i)
     line_up = lists (base all) 4194305 u (pages fm i) (pages_apart fm i ok) under used_are
 
-    -- in the first places of an array
-    module _ (before : List ℕ) {line : List ℕ} (e : line ≡ lined (ranks rs) 4194305 u ++ drop u before) where
-      is_line : take u line ≡ lined (map (rank_in (base all)) all) 4194305 u
-      is_line = front_is (lined (ranks rs) 4194305 u) before e (length_lined (ranks rs) 4194305 u) ∙ ap (λ (xs : List ℕ). lined xs 4194305 u) ranks_are
+    module _ {line : List ℕ} (e : line ≡ lined (ranks rs) 4194305 u) where
+      is_line : line ≡ lined (map (rank_in (base all)) all) 4194305 u
+      is_line = e ∙ ap (λ (xs : List ℕ). lined xs 4194305 u) ranks_are
 
-      line_long : length (take u line) ≡ u
-      line_long = ap length is_line ∙ length_lined (map (rank_in (base all)) all) 4194305 u
-
-      last_of : get_or (take u line) (u - 1) 0 ≡ active_index all
-      last_of =
-          ap (λ (ks : List ℕ). get_or ks (u - 1) 0) is_line
-          ∙ lined_last (map (rank_in (base all)) all) 4194305 u used_some ∙ active_newest 4194305 all some under
+      pub line_long : length line ≡ u
+      line_long = rw e (length_lined (ranks rs) 4194305 u)
 
       pub last_is : get_or line (u - 1) 0 ≡ active_index all
-      last_is = sym (get_or-take u line (u - 1) 0 (omega (arith, used_some))) ∙ last_of
+      last_is = rw is_line (lined_last (map (rank_in (base all)) all) 4194305 u used_some) ∙ active_newest 4194305 all some under
 
-      pub line_told : Lines fm i (take u line)
+      pub line_told : Lines fm i line
       line_told =
           record {
             within = λ k l.
-                let w = under_at (length (pages fm i)) (take u line) k (rw is_line line_up.within) l in
+                let w = under_at (length (pages fm i)) line k (rw is_line line_up.within) l in
                 omega (arith, pages_long fm i);
             used = rw is_line line_up.pages;
-            last = rw line_long last_of;
+            last = rw line_long last_is;
           }
+
+      pub uses_told : length line ≡ count (used (base all)) all
+      uses_told = line_long ∙ used_are
+
+    -- the same in the first places of an array
+    module _ (before : List ℕ) {line : List ℕ} (e : line ≡ lined (ranks rs) 4194305 u ++ drop u before) where
+      in_front : take u line ≡ lined (ranks rs) 4194305 u
+      in_front = front_is (lined (ranks rs) 4194305 u) before e (length_lined (ranks rs) 4194305 u)
+
+      front_line : take u line ≡ lined (map (rank_in (base all)) all) 4194305 u
+      front_line = is_line in_front
+
+      pub front_long : length (take u line) ≡ u
+      front_long = line_long in_front
+
+      last_of : get_or (take u line) (u - 1) 0 ≡ active_index all
+      last_of = last_is in_front
+
+      pub front_last : get_or line (u - 1) 0 ≡ active_index all
+      front_last = sym (get_or-take u line (u - 1) 0 (omega (arith, used_some))) ∙ last_of
+
+      pub front_told : Lines fm i (take u line)
+      front_told = line_told in_front
 
       pub line_rest : before ≡ replicate 32 0 → drop u line ≡ replicate (32 - u) 0
       line_rest b = behind_is (lined (ranks rs) 4194305 u) before e (length_lined (ranks rs) 4194305 u) ∙ ap (drop u) b ∙ drop-replicate u 32 0
